@@ -1,0 +1,63 @@
+-- `write` meets its contract: what is stored are the octets of the community. Assumes nothing.
+use borrow.Author.Needs.{needs}
+use native.Mathlib.Omega.{arith}
+use denote.Ref.{now}
+use Rattle.community.proofs.Laws.{image, wrote-high, wrote-short, wrote}
+use Rattle.community.proofs.write.Statement.{statement}
+use Rattle.community.proofs.write.Tie as tie
+
+returns : tie.Need-returns
+returns c = wrote-high _ _ _ _ _ (c .if1 .taken)
+
+returns-2 : tie.Need-returns-2
+returns-2 c = wrote-short _ _ _ _ _ (c .before .if1 .left) (c .if2 .taken)
+
+under-requires : tie.Need-under-requires
+under-requires c κs = search needs
+
+capabilities-requires : tie.Need-capabilities-requires
+capabilities-requires c κs = search needs
+
+of-u16-requires : tie.Need-of-u16-requires
+of-u16-requires c κs = search needs
+
+array-read-t15 : tie.Need-array-read-t15
+array-read-t15 c = search needs
+
+array-read-t18 : tie.Need-array-read-t18
+array-read-t18 c = search needs
+
+slice-aggregate-store : tie.Need-slice-aggregate-store
+slice-aggregate-store c = search needs
+
+store-requires : tie.Need-store-requires
+store-requires c κs = search needs
+
+same-length : tie.Need-same-length
+same-length c = search needs
+
+returns-3 : tie.Need-returns-3
+returns-3 c =
+    let stored = c .before .before in
+    let two = stored .before .before .before in
+    let flags = two .before in
+    let under = flags .before in
+    let octets = image _ _ _ _ _ _ _ (under .under .ensures) (flags .capabilities .ensures) (two .of-u16 .ensures) in
+    let start = under .before .before .before .before in
+    wrote (now (start .args .buf)) _ _ _ _ (omega arith) (omega arith) (start .fits .preference .fits) _ _ octets (stored .store .ensures)
+
+pub write-spec : {M : Type 1} → statement M
+write-spec =
+    tie.close
+    (tie.spec
+    returns
+    returns-2
+    under-requires
+    capabilities-requires
+    of-u16-requires
+    array-read-t15
+    array-read-t18
+    slice-aggregate-store
+    store-requires
+    same-length
+    returns-3)

@@ -1,0 +1,2 @@
+pub mod Community
+pub mod Search

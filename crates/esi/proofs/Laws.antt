@@ -1,0 +1,172 @@
+-- Laws on reserved identifiers and on the text of an identifier, for the proofs of this crate and of those above.
+-- Assumes nothing.
+use Prim.Native.Nat.{ℕ, _<_, _≤_}
+use native.Mathlib.Omega.{arith}
+use mathlib.Core.Path.{_≡_, refl, sym, ap, _∙_}
+use mathlib.Core.Bool.{Bool, true, false, cond, not, _||_, true≢false, and-eq-true-iff, and-false, or-true}
+use mathlib.Core.List.{List, _++_}
+use lib.ListN.{length, take, drop, replicate}
+use lib.Seq.{take-all, take-at, drop-at}
+use lib.Dec.{eqb}
+use borrow.Author.Tests.{eq-eqb, ne-eqb, eqb-true, lt-ltb, le-ltb}
+use Rattle.octets.specs.Octets.{allAre}
+use Rattle.octets.proofs.Laws.{Octets, octets-replicate, all-are-replicate}
+use Rattle.esi.specs.declared.TextRead.{TextRead}
+use Rattle.esi.specs.Reserved.{reserved}
+use Rattle.esi.specs.Text.{firstWrong, wellFormed, esiIn, accepted, refused, readText, textOf, lowerCase, writeTextNumber, textWritten}
+use Rattle.esi.proofs.Places.{Right, length-text, getD-text, length-esi, esi-octets, text-esi, text-right, esi-text, right-each, each-right}
+
+-- ---- reserved identifiers
+
+module _ (s : List ℕ) where
+  pub reserved-length : (length s ≡ 10 → ⊥) → reserved s ≡ true
+  unfolding reserved
+  reserved-length n = rw (ne-eqb (length s) 10 n)
+
+  pub reserved-ten : length s ≡ 10 → reserved s ≡ (allAre 0 s || allAre 255 s)
+  unfolding reserved
+  reserved-ten e = rw (eq-eqb (length s) 10 e)
+
+  pub reserved-all-zero : length s ≡ 10 → allAre 0 s ≡ true → reserved s ≡ true
+  reserved-all-zero e h = reserved-ten e ∙ rw h
+
+  pub reserved-not-zero : length s ≡ 10 → allAre 0 s ≡ false → reserved s ≡ allAre 255 s
+  reserved-not-zero e h = reserved-ten e ∙ rw h
+
+  pub length-not-reserved : reserved s ≡ false → length s ≡ 10
+  unfolding reserved
+  length-not-reserved h = eqb-true (length s) 10 (or-left (eqb (length s) 10) (allAre 0 s || allAre 255 s) h)
+    where
+      or-left : (a b : Bool) → (not a || b) ≡ false → a ≡ true
+      or-left true b e = refl
+      or-left false b e = absurd (true≢false e)
+
+pub reserved-zeros : reserved (replicate 10 0) ≡ true
+reserved-zeros = reserved-all-zero (replicate 10 0) refl (all-are-replicate 0 10)
+
+pub reserved-ones : reserved (replicate 10 255) ≡ true
+reserved-ones = reserved-ten (replicate 10 255) refl ∙ rw (all-are-replicate 255 10) (or-true (allAre 0 (replicate 10 255)))
+
+-- an identifier that is not reserved is not all zero
+pub not-zeros : (s : List ℕ) → reserved s ≡ false → s ≡ replicate 10 0 → ⊥
+not-zeros s h e = true≢false (sym reserved-zeros ∙ (rw e at h))
+
+-- ---- the three answers of reading
+
+module _ (t : List ℕ) where
+  pub read-malformed : wellFormed t ≡ false → readText t ≡ refused 13
+  unfolding readText
+  read-malformed h = rw h
+
+  pub read-reserved : wellFormed t ≡ true → reserved (esiIn t) ≡ true → readText t ≡ refused 4
+  unfolding readText
+  read-reserved h k = rw (h, k)
+
+  pub read-accepted : wellFormed t ≡ true → reserved (esiIn t) ≡ false → readText t ≡ accepted (esiIn t)
+  unfolding readText
+  read-accepted h k = rw (h, k)
+
+  -- where the code finds a text well formed, and where not
+  pub malformed-length : (length t ≡ 29 → ⊥) → wellFormed t ≡ false
+  unfolding wellFormed
+  malformed-length n = rw (ne-eqb (length t) 29 n)
+
+  pub malformed-at : (firstWrong t ≡ 29 → ⊥) → wellFormed t ≡ false
+  unfolding wellFormed
+  malformed-at n = rw (ne-eqb (firstWrong t) 29 n) (and-false (eqb (length t) 29))
+
+  pub well-formed : length t ≡ 29 → firstWrong t ≡ 29 → wellFormed t ≡ true
+  unfolding wellFormed
+  well-formed n e = rw (eq-eqb (length t) 29 n, eq-eqb (firstWrong t) 29 e)
+
+  pub well-formed-length : wellFormed t ≡ true → length t ≡ 29
+  unfolding wellFormed
+  well-formed-length h = eqb-true (length t) 29 (and-eq-true-iff (eqb (length t) 29) (eqb (firstWrong t) 29) .0 h .0)
+
+  pub well-formed-right : wellFormed t ≡ true → Right t
+  unfolding wellFormed firstWrong
+  well-formed-right h i k =
+      let n = well-formed-length h in
+      let e = eqb-true (firstWrong t) 29 (and-eq-true-iff (eqb (length t) 29) (eqb (firstWrong t) 29) .0 h .1) in
+      right-each t ((rw (take-all 29 t (omega arith)) at e) ∙ sym n) i (omega arith)
+
+-- what holds of each of the three answers holds of the answer
+pub read-cases : (t : List ℕ) (P : TextRead → Type 0) → (wellFormed t ≡ false → P (refused 13)) → (wellFormed t ≡ true → reserved (esiIn t) ≡ true → P (refused 4))
+    → (wellFormed t ≡ true → reserved (esiIn t) ≡ false → P (accepted (esiIn t))) → P (readText t)
+unfolding readText
+read-cases t P = go (wellFormed t) (reserved (esiIn t))
+  where
+    go : (w r : Bool) → (w ≡ false → P (refused 13)) → (w ≡ true → r ≡ true → P (refused 4)) → (w ≡ true → r ≡ false → P (accepted (esiIn t)))
+        → P (cond (not w) (refused 13) (cond r (refused 4) (accepted (esiIn t))))
+    go false r a b c = a refl
+    go true true a b c = b refl refl
+    go true false a b c = c refl refl
+
+-- ---- what is read
+
+module _ (t : List ℕ) where
+  pub read-length : length (readText t .esi) ≡ 10
+  read-length = read-cases t (λ a. length (a .esi) ≡ 10) (λ w. refl) (λ w r. refl) (λ w r. length-esi t)
+
+  pub read-octets : Octets (readText t .esi)
+  read-octets = read-cases t (λ a. Octets (a .esi)) (λ w. zeros) (λ w r. zeros) (λ w r. esi-octets t (well-formed-right t w))
+    where
+      zeros : Octets (replicate 10 0)
+      zeros = octets-replicate 10 0 (omega arith)
+
+  pub read-not-reserved : readText t .number ≡ 0 → reserved (readText t .esi) ≡ false
+  read-not-reserved =
+      read-cases t (λ a. a .number ≡ 0 → reserved (a .esi) ≡ false) (λ w e. absurd (omega arith)) (λ w r e. absurd (omega arith)) (λ w r e. r)
+
+  pub read-zeros : (readText t .number ≡ 0 → ⊥) → readText t .esi ≡ replicate 10 0
+  read-zeros = read-cases t (λ a. (a .number ≡ 0 → ⊥) → a .esi ≡ replicate 10 0) (λ w n. refl) (λ w r n. refl) (λ w r n. absurd (n refl))
+
+  -- the text of what was read is the text that was read, in lower case
+  pub text-of-read : Octets t → readText t .number ≡ 0 → textOf (readText t .esi) ≡ lowerCase t
+  text-of-read o =
+      read-cases t (λ a. a .number ≡ 0 → textOf (a .esi) ≡ lowerCase t) (λ w e. absurd (omega arith)) (λ w r e. absurd (omega arith))
+      (λ w r e. text-esi t (well-formed-length t w) o (well-formed-right t w))
+
+-- ---- reading what was written
+
+module _ (s : List ℕ) (o : Octets s) where
+  text-well-formed : wellFormed (textOf s) ≡ true
+  unfolding firstWrong
+  text-well-formed =
+      let n = length-text s in
+      well-formed (textOf s) n
+      (rw (take-all 29 (textOf s) (omega arith)) (each-right (textOf s) (λ i h. rw (getD-text s i (omega arith)) (text-right s o i)) ∙ n))
+
+  pub read-of-text : reserved s ≡ false → readText (textOf s) ≡ accepted s
+  read-of-text h =
+      let e = esi-text s o (length-not-reserved s h) in
+      read-accepted (textOf s) text-well-formed (rw e h) ∙ ap accepted e
+
+-- ---- the answers of writing
+
+module _ (d s : List ℕ) where
+  pub number-reserved : reserved s ≡ true → writeTextNumber (length d) s ≡ 4
+  unfolding writeTextNumber
+  number-reserved h = rw h
+
+  pub number-short : reserved s ≡ false → length d < 29 → writeTextNumber (length d) s ≡ 14
+  unfolding writeTextNumber
+  number-short h k = rw (h, lt-ltb (length d) 29 k)
+
+  pub number-written : reserved s ≡ false → 29 ≤ length d → writeTextNumber (length d) s ≡ 0
+  unfolding writeTextNumber
+  number-written h k = rw (h, le-ltb (length d) 29 k)
+
+  pub written-refused : (writeTextNumber (length d) s ≡ 0 → ⊥) → textWritten d s ≡ d
+  unfolding textWritten
+  written-refused n = rw (ne-eqb (writeTextNumber (length d) s) 0 n)
+
+  pub written-text : writeTextNumber (length d) s ≡ 0 → textWritten d s ≡ textOf s ++ drop 29 d
+  unfolding textWritten
+  written-text e = rw (eq-eqb (writeTextNumber (length d) s) 0 e)
+
+  pub take-written : writeTextNumber (length d) s ≡ 0 → take 29 (textWritten d s) ≡ textOf s
+  take-written e = rw (written-text e) (take-at (textOf s) (drop 29 d) 29 (length-text s))
+
+  pub drop-written : writeTextNumber (length d) s ≡ 0 → drop 29 (textWritten d s) ≡ drop 29 d
+  drop-written e = rw (written-text e) (drop-at (textOf s) (drop 29 d) 29 (length-text s))

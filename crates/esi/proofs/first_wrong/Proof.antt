@@ -1,0 +1,79 @@
+-- `first_wrong` meets its contract. The loop's invariant: the first wrong place is the first from place i on. Assumes nothing.
+use Prim.Native.Nat.{_≤_, _-_}
+use native.Mathlib.Omega.{arith}
+use mathlib.Core.Path.{_≡_, refl, sym, _∙_}
+use lib.ListN.{take, drop, length-take}
+use lib.Seq.{getD-take}
+use borrow.Author.Needs.{needs}
+use borrow.Author.Tests.{not-true, not-false}
+use Rattle.esi.specs.Text.{firstWrong, wrongFrom}
+use Rattle.esi.proofs.Places.{wrong-end, wrong-here, wrong-next}
+use Rattle.esi.proofs.first_wrong.Statement.{statement}
+use Rattle.esi.proofs.first_wrong.Tie as tie
+
+abbrev Inv-loop : tie.InvT-loop
+Inv-loop text i₀ i = (i ≤ 29) × (firstWrong text ≡ wrongFrom i (drop i (take 29 text)))
+
+abbrev μ-loop : tie.MeasureT-loop
+μ-loop text i₀ i = 29 - i
+
+loop-holds : tie.Need-loop-holds Inv-loop μ-loop
+unfolding firstWrong
+loop-holds c = (search needs, refl)
+
+returns : tie.Need-returns Inv-loop μ-loop
+returns c =
+    let at = c .before .before in
+    sym (at .loop .inv .1 ∙ wrong-end (take 29 (at .before .before .args .text .now)) (at .loop .i) (simp length-take (omega arith)))
+
+shared-slice-read-right-at : tie.Need-shared-slice-read-right-at Inv-loop μ-loop
+shared-slice-read-right-at c = omega arith
+
+right-at-requires : tie.Need-right-at-requires Inv-loop μ-loop
+right-at-requires c κs = search needs
+
+returns-2 : tie.Need-returns-2 Inv-loop μ-loop
+returns-2 c =
+    let at = c .before .before .before .before .before in
+    let t = at .before .before .args .text .now in
+    sym
+    (at .loop .inv .1
+    ∙ wrong-here (take 29 t) (at .loop .i) (simp length-take (omega arith))
+    (rw (getD-take 29 t (at .loop .i) 0 (omega arith)) (sym (c .before .right-at .ensures) ∙ not-true _ (c .if2 .taken))))
+
+add-i : tie.Need-add-i Inv-loop μ-loop
+add-i c = omega arith
+
+loop-less : tie.Need-loop-less Inv-loop μ-loop
+loop-less c = omega arith
+
+loop-again : tie.Need-loop-again Inv-loop μ-loop
+loop-again c =
+    let at = c .before .before .before .before .before in
+    let t = at .before .before .args .text .now in (
+      omega arith,
+      at .loop .inv .1
+          ∙ wrong-next (take 29 t) (at .loop .i) (simp length-take (omega arith))
+          (rw (getD-take 29 t (at .loop .i) 0 (omega arith)) (sym (c .before .right-at .ensures) ∙ not-false _ (c .if2 .left))),
+    )
+
+returns-3 : tie.Need-returns-3 Inv-loop μ-loop
+returns-3 c =
+    let at = c .before in
+    sym (at .loop .inv .1 ∙ wrong-end (take 29 (at .before .before .args .text .now)) (at .loop .i) (simp length-take (omega arith)))
+
+pub first-wrong-spec : {M : Type 1} → statement M
+first-wrong-spec =
+    tie.close
+    (tie.spec
+    Inv-loop
+    μ-loop
+    loop-holds
+    returns
+    shared-slice-read-right-at
+    right-at-requires
+    returns-2
+    add-i
+    loop-less
+    loop-again
+    returns-3)

@@ -1,0 +1,164 @@
+-- Laws of `specs/Crc.antt` and `specs/Weight.antt`: the CRC an octet at a time and over pieces, bounds, and the low 31 bits that decide a weight.
+-- Assumes nothing.
+use Prim.Native.Nat.{ℕ, zero, suc, _+_, _*_, _/_, _%_, _^_, _≤_, _<_}
+use native.Mathlib.Nat.{mul-one, mul-add, mul-assoc, add-assoc, div-add-mod', mod-lt, mul-add-mod-self-right}
+use native.Mathlib.Numerals.{add-one}
+use native.Mathlib.Omega.{arith}
+use mathlib.Core.Path.{_≡_, refl, ap, _∙_, sym}
+use mathlib.Core.Bool.{Bool, true, false, cond}
+use mathlib.Core.List.{List, [], _∷_, _++_}
+use lib.ListN.{length, getD, drop, drop-of-length-le}
+use lib.Seq.{drop-cons}
+use lib.Pow.{pow-pos, split}
+use lib.Dec.{eqb}
+use lib.Bits.{bitXor, differ, xor-mod, xor-lt, xor-shifted, shifted-half, shifted-even}
+use Rattle.octets.specs.Octets.{octetsOf}
+use Rattle.octets.proofs.Laws.{Octets}
+use Rattle.hrw.specs.Crc.{polynomial, allOnes, crcBit, crcBits, crcOctet, crcOver, crc32Of}
+use Rattle.hrw.specs.Weight.{digestOver, digestOf, weightOf}
+use Rattle.hrw.proofs.Xor.{bit, xor-half, xor-odd, xor-xor}
+
+-- ---- an octet at a time
+
+-- the polynomial is taken where the low bit is set, so for a xor b where it is taken for one of the two
+taken-xor : (x y : ℕ) → x < 2 → y < 2 → cond (eqb (differ x y) 1) polynomial 0 ≡ bitXor (cond (eqb x 1) polynomial 0) (cond (eqb y 1) polynomial 0)
+taken-xor zero y hx hy = refl
+taken-xor (suc zero) zero hx hy = refl
+taken-xor (suc zero) (suc zero) hx hy = refl
+taken-xor (suc zero) (suc (suc y)) hx hy = absurd (omega arith)
+taken-xor (suc (suc x)) y hx hy = absurd (omega arith)
+
+crcBit-xor : (a b : ℕ) → crcBit (bitXor a b) ≡ bitXor (crcBit a) (crcBit b)
+unfolding crcBit
+crcBit-xor a b =
+    rw (xor-half a b, xor-odd a b, taken-xor (a % 2) (b % 2) (bit a) (bit b))
+    (xor-xor (cond (eqb (a % 2) 1) polynomial 0) (cond (eqb (b % 2) 1) polynomial 0) (a / 2) (b / 2))
+
+-- the CRC is linear over exclusive or
+pub crcBits-xor : (n a b : ℕ) → crcBits n (bitXor a b) ≡ bitXor (crcBits n a) (crcBits n b)
+unfolding crcBits
+crcBits-xor zero a b = refl
+crcBits-xor (suc n) a b = ap (crcBits n) (crcBit-xor a b) ∙ crcBits-xor n (crcBit a) (crcBit b)
+
+-- zeros that are shifted out leave no trace
+pub crcBits-shift : (n h : ℕ) → crcBits n (h * 2 ^ n) ≡ h
+unfolding crcBits crcBit
+crcBits-shift zero h = mul-one h
+crcBits-shift (suc n) h =
+    rw (shifted-half h n, shifted-even h n) (crcBits-shift n h)
+
+-- so the high and the low bits of a register may be taken apart
+pub crcBits-parts : (n k c : ℕ) → crcBits n c ≡ bitXor (crcBits n (c / 2 ^ k * 2 ^ k)) (crcBits n (c % 2 ^ k))
+crcBits-parts n k c =
+    ap (crcBits n) (sym (xor-shifted (c / 2 ^ k) k (c % 2 ^ k) (mod-lt c (pow-pos k)) ∙ split c k))
+    ∙ crcBits-xor n (c / 2 ^ k * 2 ^ k) (c % 2 ^ k)
+
+pub crcOctet-parts : (c x : ℕ) → crcOctet c x ≡ bitXor (bitXor c x / 256) (crcOctet 0 (bitXor c x % 256))
+unfolding crcOctet
+crcOctet-parts c x =
+    crcBits-parts 8 8 (bitXor c x) ∙ ap (λ (n : ℕ). bitXor n (crcBits 8 (bitXor c x % 256))) (crcBits-shift 8 (bitXor c x / 256))
+
+pub crcOctet-halves : (x : ℕ) → crcOctet 0 x ≡ bitXor (crcBits 8 (x / 16 * 16)) (crcBits 8 (x % 16))
+unfolding crcOctet
+crcOctet-halves x = crcBits-parts 8 4 x
+
+-- ---- over pieces
+
+pub crcOver-append : (c : ℕ) (a b : List ℕ) → crcOver c (a ++ b) ≡ crcOver (crcOver c a) b
+unfolding crcOver
+crcOver-append c [] b = refl
+crcOver-append c (x ∷ a) b = crcOver-append (crcOctet c x) a b
+
+pub crcOver-next : (c : ℕ) (s : List ℕ) (i : ℕ) → i < length s → crcOver c (drop i s) ≡ crcOver (crcOctet c (getD s i 0)) (drop (i + 1) s)
+unfolding crcOver
+crcOver-next c s i h = rw (drop-cons s i 0 h, add-one)
+
+pub crcOver-end : (c : ℕ) (s : List ℕ) (i : ℕ) → length s ≤ i → crcOver c (drop i s) ≡ c
+unfolding crcOver
+crcOver-end c s i h = rw (drop-of-length-le s h)
+
+-- a digest over two pieces goes on from the first to the second
+pub digestOver-append : (a b : List ℕ) → digestOver (a ++ b) ≡ bitXor (crcOver (crcOver allOnes a) b) allOnes % 2 ^ 31
+unfolding digestOver crc32Of
+digestOver-append a b = ap (λ (c : ℕ). bitXor c allOnes % 2 ^ 31) (crcOver-append allOnes a b)
+
+pub digestOf-pieces : (tag : ℕ) (esi : List ℕ) → digestOf tag esi ≡ bitXor (crcOver (crcOver allOnes (octetsOf 4 tag)) esi) allOnes % 2 ^ 31
+unfolding digestOf
+digestOf-pieces tag esi = digestOver-append (octetsOf 4 tag) esi
+
+-- document 01's check: the CRC-32 of the nine characters 123456789
+pub crc32-check : crc32Of (49 ∷ 50 ∷ 51 ∷ 52 ∷ 53 ∷ 54 ∷ 55 ∷ 56 ∷ 57 ∷ []) ≡ 0xCBF4_3926
+unfolding crcBit crcBits crcOctet crcOver crc32Of
+crc32-check = refl
+
+-- ---- bounds
+
+crcBit-lt : (c : ℕ) → c < 2 ^ 32 → crcBit c < 2 ^ 32
+unfolding crcBit
+crcBit-lt c h = xor-lt 32 (cond (eqb (c % 2) 1) polynomial 0) (c / 2) (taken (eqb (c % 2) 1)) (omega arith)
+  where
+    taken : (t : Bool) → cond t polynomial 0 < 2 ^ 32
+    taken true = omega arith
+    taken false = omega arith
+
+crcBits-lt : (n c : ℕ) → c < 2 ^ 32 → crcBits n c < 2 ^ 32
+unfolding crcBits
+crcBits-lt zero c h = h
+crcBits-lt (suc n) c h = crcBits-lt n (crcBit c) (crcBit-lt c h)
+
+pub crcOver-lt : (c : ℕ) (s : List ℕ) → c < 2 ^ 32 → Octets s → crcOver c s < 2 ^ 32
+unfolding crcOver crcOctet
+crcOver-lt c [] h o = h
+crcOver-lt c (x ∷ s) h o =
+    crcOver-lt (crcOctet c x) s (crcBits-lt 8 (bitXor c x) (xor-lt 32 c x h (omega (arith, o 0)))) (λ i. o (suc i))
+
+pub crc32-lt : (s : List ℕ) → Octets s → crc32Of s < 2 ^ 32
+unfolding crc32Of
+crc32-lt s o = xor-lt 32 (crcOver allOnes s) allOnes (crcOver-lt allOnes s (omega arith) o) (omega arith)
+
+pub digestOver-lt : (s : List ℕ) → digestOver s < 2 ^ 31
+unfolding digestOver
+digestOver-lt s = mod-lt (crc32Of s) (omega arith)
+
+pub digestOf-lt : (tag : ℕ) (esi : List ℕ) → digestOf tag esi < 2 ^ 31
+unfolding digestOf
+digestOf-lt tag esi = digestOver-lt (octetsOf 4 tag ++ esi)
+
+pub weightOf-lt : (a d : ℕ) → weightOf a d < 2 ^ 31
+unfolding weightOf
+weightOf-lt a d = mod-lt _ (omega arith)
+
+-- ---- the low 31 bits decide a weight
+
+-- the step of document 01's formula, which it takes twice
+abbrev pub step : ℕ → ℕ
+step n = 1103515245 * n + 12345
+
+-- m n + k modulo p goes by n modulo p
+linear-mod : (m k p n : ℕ) → (m * n + k) % p ≡ (m * (n % p) + k) % p
+linear-mod m k p n =
+    let q = m * (n / p) in
+    let r = m * (n % p) in
+    ap (λ (x : ℕ). (m * x + k) % p) (sym (div-add-mod' n p))
+    ∙ rw (mul-add m (n / p * p) (n % p), ← mul-assoc m (n / p) p, add-assoc (q * p) r k) (mul-add-mod-self-right q p (r + k))
+
+step-mod : (n : ℕ) → step n % 2 ^ 31 ≡ step (n % 2 ^ 31) % 2 ^ 31
+step-mod = linear-mod 1103515245 12345 (2 ^ 31)
+
+-- the formula with what enters the second product reduced
+pub weightOf-reduced : (a d : ℕ) → weightOf a d ≡ step (bitXor (step a) d % 2 ^ 31) % 2 ^ 31
+unfolding weightOf
+weightOf-reduced a d = step-mod (bitXor (step a) d)
+
+-- a weight depends on the address's low 31 bits only
+pub weightOf-low : (a d : ℕ) → weightOf a d ≡ weightOf (a % 2 ^ 31) d
+weightOf-low a d =
+    let l = a % 2 ^ 31 in
+    weightOf-reduced a d
+    ∙ ap (λ (n : ℕ). step n % 2 ^ 31)
+    (xor-mod (step a) d 31 ∙ ap (λ (n : ℕ). bitXor n (d % 2 ^ 31)) (step-mod a) ∙ sym (xor-mod (step l) d 31))
+    ∙ sym (weightOf-reduced l d)
+
+-- so two addresses that agree in these tie at every digest
+pub weightOf-tie : (a b d : ℕ) → a % 2 ^ 31 ≡ b % 2 ^ 31 → weightOf a d ≡ weightOf b d
+weightOf-tie a b d e = weightOf-low a d ∙ ap (λ (n : ℕ). weightOf n d) e ∙ sym (weightOf-low b d)

@@ -1,0 +1,54 @@
+-- `crc_over` meets its contract. The loop's invariant: going on over what is left of s gives what was asked for. The measure is what is left.
+-- Assumes nothing.
+use Prim.Native.Nat.{ℕ, _+_, _-_, _≤_}
+use native.Mathlib.Omega.{arith}
+use mathlib.Core.Path.{_≡_, refl, _∙_, sym, ap}
+use lib.ListN.{length, drop}
+use Rattle.hrw.specs.Crc.{crcOver}
+use Rattle.hrw.proofs.Laws.{crcOver-next, crcOver-end}
+use Rattle.hrw.proofs.crc_over.Statement.{statement}
+use Rattle.hrw.proofs.crc_over.Tie as tie
+
+abbrev Inv-loop : tie.InvT-loop
+Inv-loop state s r₀ i₀ r i = (i ≤ length s) × (crcOver r (drop i s) ≡ crcOver state s)
+
+abbrev μ-loop : tie.MeasureT-loop
+μ-loop state s r₀ i₀ r i = length s - i
+
+loop-holds : tie.Need-loop-holds Inv-loop μ-loop
+loop-holds c = (omega arith, refl)
+
+shared-slice-read-crc-octet : tie.Need-shared-slice-read-crc-octet Inv-loop μ-loop
+shared-slice-read-crc-octet c = omega arith
+
+crc-octet-requires : tie.Need-crc-octet-requires Inv-loop μ-loop
+crc-octet-requires c κs = tt
+
+add-i : tie.Need-add-i Inv-loop μ-loop
+add-i c = omega arith
+
+loop-less : tie.Need-loop-less Inv-loop μ-loop
+loop-less c = omega arith
+
+loop-again : tie.Need-loop-again Inv-loop μ-loop
+loop-again c =
+    let s = c .before .before .before .before .before .args .s .now in
+    let l = c .before .before .before .loop in
+    (omega arith, ap (λ (r : ℕ). crcOver r (drop (l .i + 1) s)) (c .crc-octet .ensures) ∙ sym (crcOver-next (l .r) s (l .i) (omega arith)) ∙ l .inv .1)
+
+returns : tie.Need-returns Inv-loop μ-loop
+returns c = sym (crcOver-end (c .before .loop .r) (c .before .before .before .args .s .now) (c .before .loop .i) (omega arith)) ∙ c .before .loop .inv .1
+
+pub crc-over-spec : {M : Type 1} → statement M
+crc-over-spec =
+    tie.close
+    (tie.spec
+    Inv-loop
+    μ-loop
+    loop-holds
+    shared-slice-read-crc-octet
+    crc-octet-requires
+    add-i
+    loop-less
+    loop-again
+    returns)

@@ -1,0 +1,64 @@
+// Highest random weight (HRW): CRC-32, the digest of an Ethernet Tag on a segment, and the weight of an address.
+ghost use mathlib.Core.Path.{_≡_};
+ghost use Rattle.hrw.specs.Crc.{crcOctet, crcOver, crc32Of};
+ghost use Rattle.hrw.specs.Weight.{digestOf, weightOf};
+
+mod table;
+
+// The CRC register of 32 ones: a CRC starts from it, and is inverted by it at the end.
+const ALL_ONES: u32 = 0xFFFF_FFFF;
+
+// The top bit of a CRC, which a digest drops: what is left is below it.
+const TOP_BIT: u32 = 0x8000_0000;
+
+// The weight's multiplier, increment and modulus, 2^31.
+const MULTIPLIER: u64 = 1103515245;
+
+const INCREMENT: u64 = 12345;
+
+const MODULUS: u64 = 2147483648;
+
+// The CRC register after one octet more.
+fn crc_octet(state: u32, x: u8) -> u32
+    ensures { λ r. ⌜ r ≡ crcOctet state x ⌝ }
+{
+    let mixed = state ^ (x as u32);
+    (mixed / 256) ^ table::after_octet((mixed % 256) as u8)
+}
+
+// The CRC register after the octets of s, from the register handed in: a CRC of several pieces goes on from one to the next.
+pub fn crc_over(state: u32, s: &[u8]) -> u32
+    ensures { λ r. ⌜ r ≡ crcOver state (now (s .entry)) ⌝ }
+{
+    let mut r = state;
+    let mut i = 0;
+    while i < s.len() {
+        r = crc_octet(r, s[i]);
+        i += 1;
+    }
+    r
+}
+
+// The CRC-32 of the octets of s.
+pub fn crc32(s: &[u8]) -> u32
+    ensures { λ r. ⌜ r ≡ crc32Of (now (s .entry)) ⌝ }
+{
+    crc_over(ALL_ONES, s) ^ ALL_ONES
+}
+
+// The digest D of an Ethernet Tag on a segment: the CRC-32 of the tag's four octets, high first, then the identifier's ten, with the top bit dropped.
+pub fn digest(tag: u32, esi: [u8; 10]) -> u32
+    ensures { λ r. ⌜ r ≡ digestOf tag esi ⌝ }
+{
+    let head = octets::of_u32(tag);
+    let state = crc_over(ALL_ONES, &head);
+    (crc_over(state, &esi) ^ ALL_ONES) % TOP_BIT
+}
+
+// The weight of an address under any digest. Only the low 31 bits of what is multiplied second decide the result: with these the product fits.
+pub fn weight(address: u32, digest: u32) -> u32
+    ensures { λ r. ⌜ r ≡ weightOf address digest ⌝ }
+{
+    let mixed = (MULTIPLIER * (address as u64) + INCREMENT) ^ (digest as u64);
+    ((MULTIPLIER * (mixed % MODULUS) + INCREMENT) % MODULUS) as u32
+}

@@ -1,0 +1,253 @@
+-- Laws of `specs/Octets.antt`: equal runs, runs of one octet, numbers from and to octets, and stores into a buffer.
+-- Assumes nothing.
+use Prim.Native.Nat.{ℕ, zero, suc, _+_, _*_, _/_, _%_, _^_, _≤_, _<_}
+use native.Mathlib.Nat.{mul-assoc, pow-suc, pow-succ', one-le-pow}
+use native.Mathlib.Nat.{div-one, mod-one, mod-lt, mod-eq-of-lt, mul-add-div-right, mul-add-mod-self-right, mul-le-mul-right, not-suc-le-zero, le-of-suc-le-suc, le-refl, le-of-eq, add-assoc, zero-add}
+use native.Mathlib.Numerals.{add-one}
+use native.Mathlib.Omega.{arith}
+use mathlib.Core.Path.{_≡_, refl, ap, ap₂, _∙_, sym, subst}
+use mathlib.Core.Bool.{Bool, true, false, cond, false≢true, and-eq-true-iff, and-false}
+use mathlib.Core.List.{List, [], _∷_, _++_, map, append-assoc, append-nil}
+use lib.ListN.{length, getD, set, take, drop, replicate, length-append, length-drop, drop-of-length-le}
+use lib.Seq.{take-at, take-append-seam, take-length, length-take-le, drop-append-add, drop-drop, getD-drop, length-paste, paste-suc, take-all, drop-cons}
+use lib.Arith.{digits-div, mod-mul}
+use lib.Dec.{leb, eqb}
+use mir.Val.{Val}
+use mir.Syntax.{w8}
+use denote.Laws.{Is}
+use denote.Plain.{UInt}
+use denote.Array.{Array, each}
+use denote.Shadow.{shadow}
+use borrow.Author.Tests.{eq-eqb, ne-eqb, eqb-true, le-leb, lt-leb, leb-true}
+use Rattle.octets.specs.Octets.{numberOf, octetsOf, sameOctets, allAre, stored}
+
+-- ---- every element is an octet
+
+abbrev pub Octets : List ℕ → Type 0
+Octets s = (i : ℕ) → getD s i 0 < 256
+
+pub octets-nil : Octets []
+octets-nil i = omega arith
+
+pub octets-cons : (x : ℕ) (s : List ℕ) → x < 256 → Octets s → Octets (x ∷ s)
+octets-cons x s h o zero = h
+octets-cons x s h o (suc i) = o i
+
+pub octets-replicate : (n x : ℕ) → x < 256 → Octets (replicate n x)
+octets-replicate zero x h = octets-nil
+octets-replicate (suc n) x h = octets-cons x (replicate n x) h (octets-replicate n x h)
+
+pub octets-append : (s l : List ℕ) → Octets s → Octets l → Octets (s ++ l)
+octets-append [] l os ol = ol
+octets-append (x ∷ s) l os ol = octets-cons x (s ++ l) (os 0) (octets-append s l (λ i. os (suc i)) ol)
+
+pub octets-take : (n : ℕ) (s : List ℕ) → Octets s → Octets (take n s)
+octets-take zero s o = octets-nil
+octets-take (suc n) [] o = octets-nil
+octets-take (suc n) (x ∷ s) o = octets-cons x (take n s) (o 0) (octets-take n s (λ i. o (suc i)))
+
+pub octets-drop : (n : ℕ) (s : List ℕ) → Octets s → Octets (drop n s)
+octets-drop n s o i = rw getD-drop (o (n + i))
+
+-- what owning an array of octets by value tells, and a struct's field that is one, which is owned through a map
+each-octet : (s : List ℕ) (us : List Val) → shadow (each ℕ (UInt w8 .own) s us) → Octets s
+each-octet [] us h i = omega arith
+each-octet (x ∷ s) [] h i = absurd h
+each-octet (x ∷ s) (u ∷ us) h zero = h .0 .1
+each-octet (x ∷ s) (u ∷ us) h (suc i) = each-octet s us (h .1) i
+
+pub array-octets : (n : ℕ) (s : List ℕ) (vs : List Val) → Is (Array (UInt w8) n) s vs → Octets s
+array-octets n s vs p = each-octet s (p .0) (p .1 .1)
+
+pub array-length : (n : ℕ) (s : List ℕ) (vs : List Val) → Is (Array (UInt w8) n) s vs → length s ≡ n
+array-length n s vs p = p .1 .0 .1
+
+pub map-same : (s : List ℕ) → map (λ (v : ℕ). v) s ≡ s
+map-same [] = refl
+map-same (x ∷ s) = ap (x ∷_) (map-same s)
+
+pub field-octets : (n : ℕ) (s : List ℕ) (vs : List Val) → Is (Array (UInt w8) n) (map (λ (v : ℕ). v) s) vs → Octets s
+field-octets n s vs p = subst (λ (l : List ℕ). Octets l) (map-same s) (array-octets n (map (λ (v : ℕ). v) s) vs p)
+
+pub field-length : (n : ℕ) (s : List ℕ) (vs : List Val) → Is (Array (UInt w8) n) (map (λ (v : ℕ). v) s) vs → length s ≡ n
+field-length n s vs p = sym (ap length (map-same s)) ∙ array-length n (map (λ (v : ℕ). v) s) vs p
+
+-- ---- equal runs
+
+pub same-refl : (a : List ℕ) → sameOctets a a ≡ true
+unfolding sameOctets
+same-refl [] = refl
+same-refl (x ∷ a) = rw (eq-eqb x x refl) (same-refl a)
+
+pub same-equal : (a b : List ℕ) → sameOctets a b ≡ true → a ≡ b
+unfolding sameOctets
+same-equal [] [] h = refl
+same-equal [] (y ∷ b) h = absurd (false≢true h)
+same-equal (x ∷ a) [] h = absurd (false≢true h)
+same-equal (x ∷ a) (y ∷ b) h =
+    let p = and-eq-true-iff (eqb x y) (sameOctets a b) .0 h in
+    ap₂ (λ (v : ℕ) (l : List ℕ). v ∷ l) (eqb-true x y (p .0)) (same-equal a b (p .1))
+
+pub same-of : {a b : List ℕ} → a ≡ b → sameOctets a b ≡ true
+same-of {a} e = rw (← e) (same-refl a)
+
+pub same-differ : (a b : List ℕ) → (a ≡ b → ⊥) → sameOctets a b ≡ false
+same-differ a b h = not-equal (sameOctets a b) (λ t. h (same-equal a b t))
+  where
+    not-equal : (t : Bool) → (t ≡ true → ⊥) → t ≡ false
+    not-equal true n = absurd (n refl)
+    not-equal false n = refl
+
+-- ---- runs of one octet
+
+pub all-are-replicate : (x n : ℕ) → allAre x (replicate n x) ≡ true
+unfolding allAre
+all-are-replicate x zero = refl
+all-are-replicate x (suc n) = rw (eq-eqb x x refl) (all-are-replicate x n)
+
+pub replicate-all-are : (x : ℕ) (s : List ℕ) → allAre x s ≡ true → s ≡ replicate (length s) x
+unfolding allAre
+replicate-all-are x [] h = refl
+replicate-all-are x (y ∷ s) h =
+    let p = and-eq-true-iff (eqb y x) (allAre x s) .0 h in
+    ap₂ (λ (v : ℕ) (l : List ℕ). v ∷ l) (eqb-true y x (p .0)) (replicate-all-are x s (p .1))
+
+pub all-are-each : (x : ℕ) (s : List ℕ) → ((i : ℕ) → i < length s → getD s i 0 ≡ x) → allAre x s ≡ true
+unfolding allAre
+all-are-each x [] h = refl
+all-are-each x (y ∷ s) h = rw (eq-eqb y x (h 0 (omega arith))) (all-are-each x s (λ i k. h (suc i) (omega arith)))
+
+pub all-are-not : (x : ℕ) (s : List ℕ) (i : ℕ) → i < length s → (getD s i 0 ≡ x → ⊥) → allAre x s ≡ false
+unfolding allAre
+all-are-not x [] i h n = absurd (not-suc-le-zero h)
+all-are-not x (y ∷ s) zero h n = rw (ne-eqb y x n)
+all-are-not x (y ∷ s) (suc i) h n = rw (all-are-not x s i (le-of-suc-le-suc h) n) (and-false (eqb y x))
+
+-- ---- numbers from and to octets
+
+pos : (n : ℕ) → 0 < 256 ^ n
+pos n = one-le-pow n 256 (omega arith)
+
+pub length-octets : (n v : ℕ) → length (octetsOf n v) ≡ n
+unfolding octetsOf
+length-octets zero v = refl
+length-octets (suc n) v = ap suc (length-octets n v)
+
+pub octets-octets : (n v : ℕ) → Octets (octetsOf n v)
+unfolding octetsOf
+octets-octets zero v i = omega arith
+octets-octets (suc n) v zero = mod-lt (v / 256 ^ n) (omega arith)
+octets-octets (suc n) v (suc i) = octets-octets n v i
+
+pub number-octets : (n v : ℕ) → numberOf (octetsOf n v) ≡ v % 256 ^ n
+unfolding numberOf octetsOf
+number-octets zero v = sym (mod-one v)
+number-octets (suc n) v =
+    rw (length-octets n v, number-octets n v, pow-succ' 256 n) (sym (mod-mul v (omega arith) (pos n)))
+
+pub number-octets-small : (n v : ℕ) → v < 256 ^ n → numberOf (octetsOf n v) ≡ v
+number-octets-small n v h = number-octets n v ∙ mod-eq-of-lt h
+
+pub number-lt : (s : List ℕ) → Octets s → numberOf s < 256 ^ length s
+unfolding numberOf
+number-lt [] o = omega arith
+number-lt (x ∷ s) o =
+    let h : x ≤ 255 = omega (arith, o 0) in
+    omega (arith, pow-suc 256 (length s), mul-le-mul-right (256 ^ length s) h, number-lt s (λ i. o (suc i)))
+
+-- octets above the low n do not matter
+pub octets-add : (n q v : ℕ) → octetsOf n (q * 256 ^ n + v) ≡ octetsOf n v
+unfolding octetsOf
+octets-add zero q v = refl
+octets-add (suc n) q v = rw (pow-succ' 256 n, ← mul-assoc q 256 (256 ^ n)) (ap₂ (λ (x : ℕ) (l : List ℕ). x ∷ l) head (octets-add n (q * 256) v))
+  where
+    head : (q * 256 * 256 ^ n + v) / 256 ^ n % 256 ≡ v / 256 ^ n % 256
+    head = rw (mul-add-div-right (pos n) (q * 256) v) (mul-add-mod-self-right q 256 (v / 256 ^ n))
+
+pub octets-number : (s : List ℕ) → Octets s → octetsOf (length s) (numberOf s) ≡ s
+unfolding octetsOf numberOf
+octets-number [] o = refl
+octets-number (x ∷ s) o =
+    ap₂ (λ (v : ℕ) (l : List ℕ). v ∷ l)
+    (ap (λ (k : ℕ). k % 256) (digits-div x (number-lt s (λ i. o (suc i)))) ∙ mod-eq-of-lt (o 0))
+    (octets-add (length s) x (numberOf s) ∙ octets-number s (λ i. o (suc i)))
+
+pub number-inj : (a b : List ℕ) → Octets a → Octets b → length a ≡ length b → numberOf a ≡ numberOf b → a ≡ b
+number-inj a b oa ob e h = sym (octets-number a oa) ∙ ap₂ (λ (n v : ℕ). octetsOf n v) e h ∙ octets-number b ob
+
+-- the number of four octets, as a sum
+pub number-four : (a b c d : ℕ) → numberOf (a ∷ b ∷ c ∷ d ∷ []) ≡ a * 16777216 + b * 65536 + c * 256 + d
+unfolding numberOf
+number-four a b c d = omega arith
+
+pub number-two : (a b : ℕ) → numberOf (a ∷ b ∷ []) ≡ a * 256 + b
+unfolding numberOf
+number-two a b = omega arith
+
+pub four-octets : (v : ℕ) → octetsOf 4 v ≡ v / 16777216 % 256 ∷ v / 65536 % 256 ∷ v / 256 % 256 ∷ v % 256 ∷ []
+unfolding octetsOf
+four-octets v = rw (div-one v)
+
+pub two-octets : (v : ℕ) → octetsOf 2 v ≡ v / 256 % 256 ∷ v % 256 ∷ []
+unfolding octetsOf
+two-octets v = rw (div-one v)
+
+-- ---- a store into a buffer
+
+pub stored-fits : (d : List ℕ) (at : ℕ) (s : List ℕ) → at + length s ≤ length d → stored d at s ≡ take at d ++ s ++ drop (at + length s) d
+unfolding stored
+stored-fits d at s h = rw (le-leb (at + length s) (length d) h)
+
+pub stored-not : (d : List ℕ) (at : ℕ) (s : List ℕ) → length d < at + length s → stored d at s ≡ d
+unfolding stored
+stored-not d at s h = rw (lt-leb (at + length s) (length d) h)
+
+pub length-stored : (d : List ℕ) (at : ℕ) (s : List ℕ) → length (stored d at s) ≡ length d
+unfolding stored
+length-stored d at s = by-test (leb (at + length s) (length d)) (leb-true (at + length s) (length d))
+  where
+    by-test : (t : Bool) → (t ≡ true → at + length s ≤ length d) → length (cond t (take at d ++ s ++ drop (at + length s) d) d) ≡ length d
+    by-test true h = subst (λ (l : List ℕ). length (take at d ++ l ++ drop (at + length s) d) ≡ length d) (take-length s) (length-paste d at s (length s) (h refl) (le-refl (length s)))
+    by-test false h = refl
+
+-- a store right after a prefix
+pub stored-after : (p l s : List ℕ) (n : ℕ) → length p ≡ n → length s ≤ length l → stored (p ++ l) n s ≡ p ++ s ++ drop (length s) l
+stored-after p l s n e h =
+    stored-fits (p ++ l) n s (simp length-append (omega arith))
+    ∙ ap₂ (λ (a b : List ℕ). a ++ s ++ b) (take-at p l n e) (rw (← e) (drop-append-add p l (length s)))
+
+pub stored-front : (d s : List ℕ) → length s ≤ length d → stored d 0 s ≡ s ++ drop (length s) d
+stored-front d s h = stored-after [] d s 0 refl h
+
+pub take-stored : (d s : List ℕ) → length s ≤ length d → take (length s) (stored d 0 s) ≡ s
+take-stored d s h = rw (stored-front d s h) (take-append-seam s (drop (length s) d))
+
+-- a store over the whole buffer
+pub stored-all : (d s : List ℕ) → length s ≡ length d → stored d 0 s ≡ s
+stored-all d s e = stored-front d s (omega arith) ∙ rw (drop-of-length-le d {i = length s} (omega arith)) (append-nil s)
+
+-- two stores, one after the other, are one
+pub stored-stored : (d : List ℕ) (at : ℕ) (p s : List ℕ) (n : ℕ) → at + length p ≡ n → n + length s ≤ length d → stored (stored d at p) n s ≡ stored d at (p ++ s)
+stored-stored d at p s n e h =
+    let low : at ≤ length d = omega arith in
+    ap (λ (l : List ℕ). stored l n s) (stored-fits d at p (omega arith))
+    ∙ stored-after (take at d ++ p) (drop (at + length p) d) s n (simp (length-append, length-take-le) (omega arith)) (simp length-drop (omega arith))
+    ∙ rw (drop-drop, append-assoc (take at d) p s, add-assoc, ← length-append p s) (sym (stored-fits d at (p ++ s) (simp length-append (omega arith))))
+
+-- a store octet by octet from the front: one more octet of s; all of them
+pub front-next : (d s : List ℕ) (i : ℕ) → i < length d → i < length s → set (take i s ++ drop i d) i (getD s i 0) ≡ take (i + 1) s ++ drop (i + 1) d
+front-next d s i h k = rw add-one (simp zero-add at (paste-suc d 0 s i 0 (rw zero-add h) k))
+
+pub front-all : (d s : List ℕ) (n : ℕ) → length s ≡ n → take n s ++ drop n d ≡ s ++ drop n d
+front-all d s n e = rw (take-all n s (le-of-eq e))
+
+-- ---- a part of a run, element by element
+
+abbrev pub elements : ℕ → ℕ → List ℕ → List ℕ
+elements zero i s = []
+elements (suc n) i s = getD s i 0 ∷ elements n (suc i) s
+
+pub take-elements : (n i : ℕ) (s : List ℕ) → i + n ≤ length s → take n (drop i s) ≡ elements n i s
+take-elements zero i s h = refl
+take-elements (suc n) i s h =
+    ap (take (suc n)) (drop-cons s i 0 (omega arith)) ∙ ap (getD s i 0 ∷_) (take-elements n (suc i) s (omega arith))

@@ -1,0 +1,2 @@
+-- Laws on octets for the crates above.
+pub mod Laws

@@ -1,0 +1,32 @@
+-- Octets and the numbers that they make, high octet first, as document 01 writes every field ("The route", "The community").
+--   numberOf s        == the number that the octets s make
+--   octetsOf n v      == the low n octets of the number v
+--   sameOctets a b    == whether a and b are the same octets
+--   allAre x s        == whether every octet of s is x
+--   stored d at s     == d with s in the places from `at` on; d itself where s does not fit
+use Prim.Native.Nat.{ℕ, zero, suc, _+_, _*_, _/_, _%_, _^_}
+use mathlib.Core.Bool.{Bool, true, false, cond, _&&_}
+use mathlib.Core.List.{List, [], _∷_, _++_}
+use lib.ListN.{length, take, drop}
+use lib.Dec.{leb, eqb}
+
+unfoldable pub numberOf : List ℕ → ℕ
+numberOf [] = 0
+numberOf (x ∷ s) = x * 256 ^ length s + numberOf s
+
+unfoldable pub octetsOf : ℕ → ℕ → List ℕ
+octetsOf zero v = []
+octetsOf (suc n) v = v / 256 ^ n % 256 ∷ octetsOf n v
+
+unfoldable pub sameOctets : List ℕ → List ℕ → Bool
+sameOctets [] [] = true
+sameOctets [] (y ∷ b) = false
+sameOctets (x ∷ a) [] = false
+sameOctets (x ∷ a) (y ∷ b) = eqb x y && sameOctets a b
+
+unfoldable pub allAre : ℕ → List ℕ → Bool
+allAre x [] = true
+allAre x (y ∷ s) = eqb y x && allAre x s
+
+unfoldable pub stored : List ℕ → ℕ → List ℕ → List ℕ
+stored d at s = cond (leb (at + length s) (length d)) (take at d ++ s ++ drop (at + length s) d) d

@@ -1,0 +1,260 @@
+-- Laws of `specs/Route.antt`: which check gives the number, what an accepted route has, and that a written route reads back. Assumes nothing.
+use Prim.Native.Nat.{ℕ, suc, _+_, _≤_, _<_, _^_}
+use native.Mathlib.Omega.{arith}
+use mathlib.Core.Path.{_≡_, refl, ap, ap₂, sym, _∙_}
+use mathlib.Core.Bool.{Bool, true, false, cond, not, _||_}
+use mathlib.Core.List.{List, [], _∷_, _++_, append-assoc}
+use lib.ListN.{length, getD, take, drop, replicate, length-append, length-drop}
+use lib.Seq.{take-at, take-all, drop-at, drop-drop, getD-drop, length-take-le}
+use lib.Dec.{ltb, eqb}
+use borrow.Author.Tests.{eq-eqb, ne-eqb, eqb-true, eqb-false, le-ltb, lt-ltb}
+use Rattle.octets.specs.Octets.{numberOf, octetsOf, stored}
+use Rattle.octets.proofs.Laws.{elements, take-elements, length-octets, number-octets-small, stored-front, stored-all, stored-stored}
+use Rattle.address.specs.Address.{isZero}
+use Rattle.esi.specs.Reserved.{reserved}
+use Rattle.esi.proofs.Laws.{length-not-reserved}
+use Rattle.route.specs.Route.{routeDistinguisher, routeEsi, routeAddress, routeNumber, checkedNumber, routeChecked, readAs, readRoute, routeOctets, writeRouteNumber, routeWritten}
+use Rattle.route.specs.declared.Checked.{Checked}
+use Rattle.route.specs.declared.Checked.the-variants.{Originator, Refused}
+
+-- WHAT THE CHECK ANSWERS
+module _ (s : List ℕ) where
+  abbrev pub Answers : Checked → Type 0
+  Answers c = (c ≡ routeChecked s) × (checkedNumber c ≡ routeNumber s)
+
+  refused : (n : ℕ) → suc n ≡ routeNumber s → Answers (Refused (suc n))
+  unfolding routeChecked
+  refused n e = (rw (← e, ne-eqb (suc n) 0 (λ z. omega arith)), e)
+
+  accepted : (a : ℕ) → a ≡ routeAddress s → 0 ≡ routeNumber s → Answers (Originator a)
+  unfolding routeChecked
+  accepted a q e = (rw (← e, q), e)
+
+  pub short : length s < 21 → Answers (Refused 1)
+  unfolding routeNumber
+  short h = refused 0 (rw (lt-ltb _ _ h))
+
+  module _ (l : 21 ≤ length s) where
+    pub not-type : (getD s 0 0 ≡ 4 → ⊥) → Answers (Refused 2)
+    unfolding routeNumber
+    not-type n = refused 1 (rw (le-ltb _ _ l, ne-eqb _ _ n))
+
+    module _ (t : getD s 0 0 ≡ 4) where
+      pub not-bits : (getD s 20 0 ≡ 32 → ⊥) → Answers (Refused 3)
+      unfolding routeNumber
+      not-bits n = refused 2 (rw (le-ltb _ _ l, eq-eqb _ _ t, ne-eqb _ _ n))
+
+      module _ (b : getD s 20 0 ≡ 32) where
+        pub not-total : (length s ≡ 25 → ⊥) → Answers (Refused 1)
+        unfolding routeNumber
+        not-total n = refused 0 (rw (le-ltb _ _ l, eq-eqb _ _ t, eq-eqb _ _ b, ne-eqb _ _ n))
+
+        module _ (w : length s ≡ 25) where
+          pub not-length : (getD s 1 0 ≡ 23 → ⊥) → Answers (Refused 1)
+          unfolding routeNumber
+          not-length n = refused 0 (rw (le-ltb _ _ l, eq-eqb _ _ t, eq-eqb _ _ b, eq-eqb _ _ w, ne-eqb _ _ n))
+
+          module _ (m : getD s 1 0 ≡ 23) where
+            number-last : routeNumber s ≡ cond (reserved (routeEsi s)) 4 (cond (isZero (routeAddress s)) 6 0)
+            unfolding routeNumber
+            number-last = rw (le-ltb _ _ l, eq-eqb _ _ t, eq-eqb _ _ b, eq-eqb _ _ w, eq-eqb _ _ m)
+
+            pub reserved-esi : reserved (take 10 (drop 10 s)) ≡ true → Answers (Refused 4)
+            unfolding routeEsi
+            reserved-esi r = refused 3 (sym (number-last ∙ rw r))
+
+            module _ (r : reserved (take 10 (drop 10 s)) ≡ false) (a : ℕ) (q : a ≡ numberOf (elements 4 21 s)) where
+              is-address : a ≡ routeAddress s
+              unfolding routeAddress
+              is-address = q ∙ ap numberOf (sym (take-elements 4 21 s (omega arith)))
+
+              pub zero-address : isZero a ≡ true → Answers (Refused 6)
+              unfolding routeEsi
+              zero-address z = refused 5 (sym (number-last ∙ rw (r, ← is-address, z)))
+
+              pub originator : isZero a ≡ false → Answers (Originator a)
+              unfolding routeEsi
+              originator z = accepted a is-address (sym (number-last ∙ rw (r, ← is-address, z)))
+
+-- what an accepted route has: each check that is passed, from the number alone
+passed : (b : Bool) (n m : ℕ) → cond b (suc n) m ≡ 0 → (b ≡ false) × (m ≡ 0)
+passed true n m h = absurd (omega arith)
+passed false n m h = (refl, h)
+
+not-false : (b : Bool) → not b ≡ false → b ≡ true
+not-false true h = refl
+not-false false h = sym h
+
+or-false : (a b : Bool) → (a || b) ≡ false → (a ≡ false) × (b ≡ false)
+or-false true b h = (h, cc)
+or-false false b h = (refl, h)
+
+module _ (s : List ℕ) (h : routeNumber s ≡ 0) where
+  rest : cond {A = ℕ} (not (eqb (length s) 25) || not (eqb (getD s 1 0) 23)) 1 (cond (reserved (routeEsi s)) 4 (cond (isZero (routeAddress s)) 6 0)) ≡ 0
+  unfolding routeNumber
+  rest = passed (not (eqb (getD s 20 0) 32)) 2 _ (passed (not (eqb (getD s 0 0) 4)) 1 _ (passed (ltb (length s) 21) 0 _ h .1) .1) .1
+
+  pub route-length : length s ≡ 25
+  route-length = eqb-true _ _ (not-false _ (or-false _ _ (passed _ 0 _ rest .0) .0))
+
+  last : cond {A = ℕ} (reserved (routeEsi s)) 4 (cond (isZero (routeAddress s)) 6 0) ≡ 0
+  last = passed (not (eqb (length s) 25) || not (eqb (getD s 1 0) 23)) 0 _ rest .1
+
+  pub route-esi : reserved (routeEsi s) ≡ false
+  route-esi = passed _ 3 _ last .0
+
+  pub route-address : isZero (routeAddress s) ≡ false
+  route-address = passed _ 5 _ (passed (reserved (routeEsi s)) 3 _ last .1) .0
+
+  pub length-esi : length (routeEsi s) ≡ 10
+  length-esi = length-not-reserved (routeEsi s) route-esi
+
+-- what the check's answer says
+originator-told : (n a b : ℕ) (e : Bool) → cond e (Originator a) (Refused n) ≡ Originator b → (e ≡ true) × (b ≡ a)
+originator-told n a b true h = (refl, cc)
+originator-told n a b false h = let z : _≡_ {A = ℕ} 0 1 = cc in absurd (omega arith)
+
+refused-told : (n a m : ℕ) (e : Bool) → cond e (Originator a) (Refused n) ≡ Refused m → (e ≡ false) × (m ≡ n)
+refused-told n a m true h = let z : _≡_ {A = ℕ} 0 1 = cc in absurd (omega arith)
+refused-told n a m false h = (refl, cc)
+
+module _ (s : List ℕ) where
+  pub told-originator : (a : ℕ) → routeChecked s ≡ Originator a → (routeNumber s ≡ 0) × (a ≡ routeAddress s)
+  unfolding routeChecked
+  told-originator a h =
+      let t = originator-told (routeNumber s) (routeAddress s) a (eqb (routeNumber s) 0) h in
+      (eqb-true (routeNumber s) 0 (t .0), t .1)
+
+  pub told-refused : (n : ℕ) → routeChecked s ≡ Refused n → (routeNumber s ≡ 0 → ⊥) × (n ≡ routeNumber s)
+  unfolding routeChecked
+  told-refused n h =
+      let t = refused-told (routeNumber s) (routeAddress s) n (eqb (routeNumber s) 0) h in
+      (eqb-false (routeNumber s) 0 (t .0), t .1)
+
+  -- WHAT THE READER ANSWERS
+  pub read-refused : (n : ℕ) → routeChecked s ≡ Refused n → readAs n (replicate 8 0) (replicate 10 0) 0 ≡ readRoute s
+  unfolding readRoute
+  read-refused n h = let t = told-refused n h in rw (ne-eqb (routeNumber s) 0 (t .0), t .1)
+
+  pub read-accepted : (a : ℕ) (d e : List ℕ) → routeChecked s ≡ Originator a
+      → d ≡ stored (replicate 8 0) 0 (take 8 (drop 2 s)) → e ≡ stored (replicate 10 0) 0 (take 10 (drop 10 s))
+      → readAs 0 d e a ≡ readRoute s
+  unfolding readRoute routeDistinguisher routeEsi
+  read-accepted a d e h p q =
+      let t = told-originator a h in
+      let l : length s ≡ 25 = route-length s (t .0) in
+      rw (eq-eqb (routeNumber s) 0 (t .0), p, q, t .1)
+      (ap₂ (λ (x y : List ℕ). readAs 0 x y (routeAddress s))
+      (stored-all (replicate 8 0) (take 8 (drop 2 s)) (length-take-le 8 (drop 2 s) (simp length-drop (omega arith))))
+      (stored-all (replicate 10 0) (take 10 (drop 10 s)) (length-take-le 10 (drop 10 s) (simp length-drop (omega arith)))))
+
+-- THE WAY BACK: what was written reads as it was meant
+module _ (d e : List ℕ) (a : ℕ) (ld : length d ≡ 8) (re : reserved e ≡ false) (za : isZero a ≡ false) (fa : a < 256 ^ 4) where
+  abbrev o : List ℕ
+  o = routeOctets d e a
+
+  length-ten : length e ≡ 10
+  length-ten = length-not-reserved e re
+
+  length-octets-route : length o ≡ 25
+  unfolding routeOctets
+  length-octets-route = simp (length-append, length-octets 4 a) (omega (arith, ld, length-ten))
+
+  distinguisher-of : routeDistinguisher o ≡ d
+  unfolding routeDistinguisher routeOctets
+  distinguisher-of = take-at d (e ++ 32 ∷ octetsOf 4 a) 8 ld
+
+  -- the octets from the identifier on
+  after-distinguisher : drop 10 o ≡ e ++ 32 ∷ octetsOf 4 a
+  unfolding routeOctets
+  after-distinguisher = drop-at d (e ++ 32 ∷ octetsOf 4 a) 8 ld
+
+  after-esi : drop 20 o ≡ 32 ∷ octetsOf 4 a
+  after-esi = sym (drop-drop 10 10 o) ∙ ap (drop 10) after-distinguisher ∙ drop-at e (32 ∷ octetsOf 4 a) 10 length-ten
+
+  esi-of : routeEsi o ≡ e
+  unfolding routeEsi
+  esi-of = ap (take 10) after-distinguisher ∙ take-at e (32 ∷ octetsOf 4 a) 10 length-ten
+
+  bits-of : getD o 20 0 ≡ 32
+  bits-of = sym (getD-drop 20 o 0 0) ∙ ap (λ (l : List ℕ). getD l 0 0) after-esi
+
+  address-of : routeAddress o ≡ a
+  unfolding routeAddress
+  address-of =
+      ap (λ (l : List ℕ). numberOf (take 4 l)) (sym (drop-drop 1 20 o) ∙ ap (drop 1) after-esi)
+      ∙ ap numberOf (take-all 4 (octetsOf 4 a) (omega (arith, length-octets 4 a)))
+      ∙ number-octets-small 4 a fa
+
+  number-of : routeNumber o ≡ 0
+  unfolding routeOctets
+  number-of =
+      number-last o (omega (arith, length-octets-route)) refl bits-of length-octets-route refl
+      ∙ rw (esi-of, re, address-of, za)
+
+  reads-back : readRoute o ≡ readAs 0 d e a
+  unfolding readRoute
+  reads-back = rw (eq-eqb (routeNumber o) 0 number-of, distinguisher-of, esi-of, address-of)
+
+  -- WHAT THE WRITER STORES, piece by piece
+  module _ (b : List ℕ) (lb : 25 ≤ length b) where
+    front : stored b 0 o ≡ o ++ drop 25 b
+    front = stored-front b o (omega (arith, length-octets-route)) ∙ rw length-octets-route
+
+    joined : stored (stored (stored (stored (stored b 0 (4 ∷ 23 ∷ [])) 2 d) 10 e) 20 (32 ∷ [])) 21 (octetsOf 4 a) ≡ stored b 0 o
+    unfolding routeOctets
+    joined =
+        let le = length-ten in
+        let lo = length-octets 4 a in
+        let head : 0 + length (4 ∷ 23 ∷ d) ≡ 10 = omega arith in
+        let more : 0 + length (4 ∷ 23 ∷ d ++ e) ≡ 20 = simp length-append (omega arith) in
+        let most : 0 + length (4 ∷ 23 ∷ (d ++ e) ++ 32 ∷ []) ≡ 21 = simp length-append (omega arith) in
+        rw (stored-stored b 0 (4 ∷ 23 ∷ []) d 2 refl (omega arith), stored-stored b 0 (4 ∷ 23 ∷ d) e 10 head (omega arith), stored-stored b 0 (4 ∷ 23 ∷ d ++ e) (32 ∷ []) 20 more (omega arith), stored-stored b 0 (4 ∷ 23 ∷ (d ++ e) ++ 32 ∷ []) (octetsOf 4 a) 21 most (omega arith))
+        (ap (λ (l : List ℕ). stored b 0 (4 ∷ 23 ∷ l)) (append-assoc (d ++ e) (32 ∷ []) (octetsOf 4 a) ∙ append-assoc d e (32 ∷ octetsOf 4 a)))
+
+    pub stored-route : {v p q r t l : List ℕ} → v ≡ octetsOf 4 a → p ≡ stored b 0 (4 ∷ 23 ∷ []) → q ≡ stored p 2 d → r ≡ stored q 10 e → t ≡ stored r 20 (32 ∷ []) → l ≡ stored t 21 v → l ≡ o ++ drop 25 b
+    stored-route hv hp hq hr ht hl = hl ∙ rw (hv, ht, hr, hq, hp, joined) front
+
+-- WHAT THE WRITER LEAVES
+module _ (b d e : List ℕ) (a : ℕ) where
+  -- what the writer promises of its answer n and of what the buffer then holds
+  abbrev pub Wrote : ℕ → List ℕ → Type 0
+  Wrote n l =
+      (n ≡ writeRouteNumber d e a (length b))
+      × ((l ≡ routeWritten b d e a)
+      × (n ≡ 0 → readRoute (take 25 l) ≡ readAs 0 d e a))
+
+  not-written : (n : ℕ) → suc n ≡ writeRouteNumber d e a (length b) → Wrote (suc n) b
+  unfolding routeWritten
+  not-written n q = (q, (rw (← q, ne-eqb (suc n) 0 (λ z. omega arith)), λ z. absurd (omega arith)))
+
+  pub wrote-no-distinguisher : (length d ≡ 8 → ⊥) → Wrote 1 b
+  unfolding writeRouteNumber
+  wrote-no-distinguisher n = not-written 0 (rw (ne-eqb _ _ n))
+
+  module _ (ld : length d ≡ 8) where
+    pub wrote-reserved : reserved e ≡ true → Wrote 4 b
+    unfolding writeRouteNumber
+    wrote-reserved r = not-written 3 (rw (eq-eqb _ _ ld, r))
+
+    module _ (re : reserved e ≡ false) where
+      pub wrote-zero : isZero a ≡ true → Wrote 6 b
+      unfolding writeRouteNumber
+      wrote-zero z = not-written 5 (rw (eq-eqb _ _ ld, re, z))
+
+      module _ (za : isZero a ≡ false) where
+        pub wrote-short : length b < 25 → Wrote 14 b
+        unfolding writeRouteNumber
+        wrote-short h = not-written 13 (rw (eq-eqb _ _ ld, re, za, lt-ltb _ _ h))
+
+        pub wrote : (fa : a < 256 ^ 4) (lb : 25 ≤ length b) {v p q r t l : List ℕ} → v ≡ octetsOf 4 a → p ≡ stored b 0 (4 ∷ 23 ∷ []) → q ≡ stored p 2 d → r ≡ stored q 10 e → t ≡ stored r 20 (32 ∷ []) → l ≡ stored t 21 v → Wrote 0 l
+        unfolding writeRouteNumber routeWritten
+        wrote fa lb {l = l} hv hp hq hr ht hl =
+            let f : l ≡ routeOctets d e a ++ drop 25 b = stored-route d e a ld re za fa b lb hv hp hq hr ht hl in
+            let n : 0 ≡ writeRouteNumber d e a (length b) = rw (eq-eqb _ _ ld, re, za, le-ltb _ _ lb) in (
+              n,
+              (
+                f ∙ rw (← n),
+                λ z. rw (f, take-at (routeOctets d e a) (drop 25 b) 25 (length-octets-route d e a ld re za fa)) (reads-back d e a ld re za fa),
+              ),
+            )

@@ -1,0 +1,116 @@
+// The Ethernet Segment route of RFC 7432: checking one, reading its fields, and writing one.
+use address::Address;
+ghost use mathlib.Core.Path.{_≡_};
+ghost use lib.ListN.{length, take};
+ghost use Rattle.route.specs.Route.{checkedNumber, checkedAddress, routeNumber, routeChecked, readAs, readRoute, writeRouteNumber, routeWritten};
+
+// The answer of the check: the originator's address, or a refusal number.
+pub enum Checked {
+    Originator(Address),
+    Refused(u8),
+}
+
+// The answer of the reader: 0 and the fields, or a refusal number and zeros.
+pub struct RouteRead {
+    pub number: u8,
+    pub distinguisher: [u8; 8],
+    pub esi: [u8; 10],
+    pub address: Address,
+}
+
+// The number of a check's answer: 0 for an address.
+pub fn number(c: Checked) -> u8
+    ensures { λ r. ⌜ r ≡ checkedNumber c ⌝ }
+{
+    match c {
+        Checked::Originator(_) => 0,
+        Checked::Refused(n) => n,
+    }
+}
+
+// Checks a route, in document 01's order: fewer than 21 octets, 1; type not 4, 2; address length not 32, 3; not 25 octets or length octet
+// not 23, 1; identifier reserved, 4; address zero, 6. Otherwise the answer is the originator's address.
+pub fn check(s: &[u8]) -> Checked
+    ensures { λ r. ⌜ r ≡ routeChecked (now (s .entry)) ⌝ }
+    ensures numbered { λ r. ⌜ checkedNumber r ≡ routeNumber (now (s .entry)) ⌝ }
+{
+    if s.len() < 21 {
+        return Checked::Refused(1);
+    }
+    if s[0] != 4 {
+        return Checked::Refused(2);
+    }
+    if s[20] != 32 {
+        return Checked::Refused(3);
+    }
+    if s.len() != 25 {
+        return Checked::Refused(1);
+    }
+    if s[1] != 23 {
+        return Checked::Refused(1);
+    }
+    if esi::is_reserved(&s[10..20]) {
+        return Checked::Refused(4);
+    }
+    let a = octets::u32_of(s[21], s[22], s[23], s[24]);
+    if address::is_zero(a) {
+        return Checked::Refused(6);
+    }
+    Checked::Originator(a)
+}
+
+// Reads a route: its distinguisher, identifier and originator, or the check's refusal with zeros.
+pub fn read(s: &[u8]) -> RouteRead
+    ensures { λ r. ⌜ r ≡ readRoute (now (s .entry)) ⌝ }
+{
+    let mut d = [0u8; 8];
+    let mut e = [0u8; 10];
+    let checked = check(s);
+    let Checked::Originator(a) = checked else {
+        let n = number(checked);
+        return RouteRead {
+            number: n,
+            distinguisher: d,
+            esi: e,
+            address: 0,
+        };
+    };
+    octets::store(&mut d, 0, &s[2..10]);
+    octets::store(&mut e, 0, &s[10..20]);
+    RouteRead {
+        number: 0,
+        distinguisher: d,
+        esi: e,
+        address: a,
+    }
+}
+
+// Writes a route into the first 25 octets of a buffer: 1 for a distinguisher that is not eight octets, 4 for a reserved identifier, 6 for
+// address zero, 14 for a buffer under 25 octets; these leave the buffer as it is. Reading what was written gives the three back.
+pub fn write(buf: &mut [u8], distinguisher: &[u8], esi: &[u8], address: Address) -> u8
+    ensures number { λ r. ⌜ r ≡ writeRouteNumber (now (distinguisher .entry)) (now (esi .entry)) address (length (now (buf .entry))) ⌝ }
+    ensures written { λ _. ⌜ now (buf .exit) ≡ routeWritten (now (buf .entry)) (now (distinguisher .entry)) (now (esi .entry)) address ⌝ }
+    ensures reads { λ r. ⌜ (r ≡ 0 → readRoute (take 25 (now (buf .exit))) ≡ readAs 0 (now (distinguisher .entry)) (now (esi .entry)) address) ⌝ }
+{
+    if distinguisher.len() != 8 {
+        return 1;
+    }
+    if esi::is_reserved(esi) {
+        return 4;
+    }
+    if address::is_zero(address) {
+        return 6;
+    }
+    if buf.len() < 25 {
+        return 14;
+    }
+    let start = [4, 23];
+    let bits = [32];
+    let a = octets::of_u32(address);
+    octets::store(buf, 0, &start);
+    octets::store(buf, 2, distinguisher);
+    octets::store(buf, 10, esi);
+    octets::store(buf, 20, &bits);
+    octets::store(buf, 21, &a);
+    0
+}

@@ -1,0 +1,166 @@
+//! The bench program: records in, one line each out. Document 01, "The bench program".
+//!
+//! A record is the mark D5 4F, a kind octet, a length octet and that many octets. Records are
+//! taken one by one, so memory does not grow with the input.
+
+use crate::election;
+use crate::esi;
+use crate::refusal::{answer_number, Refusal};
+use crate::route::ROUTE_LENGTH;
+use crate::table::Table;
+use std::io::{self, ErrorKind, Read, Write};
+use std::net::Ipv4Addr;
+
+pub const MARK: [u8; 2] = [0xD5, 0x4F];
+pub const KIND_ESI: u8 = 0;
+pub const KIND_ANNOUNCEMENT: u8 = 1;
+pub const KIND_WITHDRAWAL: u8 = 2;
+pub const KIND_QUERY: u8 = 3;
+pub const MAX_BODY: usize = 255;
+
+const HEADER_LENGTH: usize = 4;
+
+/// What stands next in the input.
+enum Next {
+    End,
+    Bad,
+    Record { kind: u8, length: usize },
+}
+
+/// The line that a record prints, and whether the run goes on after it.
+enum Outcome {
+    GoOn(String),
+    Stop(String),
+}
+
+/// Runs the bench program from input to output and flushes the output.
+pub fn run(input: &mut impl Read, output: &mut impl Write) -> io::Result<()> {
+    let mut table = None;
+    let mut body = [0; MAX_BODY];
+    loop {
+        let outcome = match next_record(input, &mut body)? {
+            Next::End => return output.flush(),
+            Next::Bad => bad_record(),
+            Next::Record { kind, length } => take_record(&mut table, kind, &body[..length]),
+        };
+        match outcome {
+            Outcome::GoOn(line) => writeln!(output, "{line}")?,
+            Outcome::Stop(line) => {
+                writeln!(output, "{line}")?;
+                return output.flush();
+            }
+        }
+    }
+}
+
+/// Reads one record; its octets go to the start of `body`. A wrong mark or a cut record is bad.
+fn next_record(input: &mut impl Read, body: &mut [u8; MAX_BODY]) -> io::Result<Next> {
+    let mut header = [0; HEADER_LENGTH];
+    let got = fill(input, &mut header)?;
+    if got == 0 {
+        return Ok(Next::End);
+    }
+    if got < HEADER_LENGTH || header[..2] != MARK {
+        return Ok(Next::Bad);
+    }
+    let length = usize::from(header[3]);
+    if fill(input, &mut body[..length])? < length {
+        return Ok(Next::Bad);
+    }
+    Ok(Next::Record {
+        kind: header[2],
+        length,
+    })
+}
+
+/// Reads until the buffer is full or the input ends; answers the number of octets read.
+fn fill(input: &mut impl Read, buffer: &mut [u8]) -> io::Result<usize> {
+    let mut got = 0;
+    while got < buffer.len() {
+        match input.read(&mut buffer[got..]) {
+            Ok(0) => return Ok(got),
+            Ok(count) => got += count,
+            Err(error) if error.kind() == ErrorKind::Interrupted => {}
+            Err(error) => return Err(error),
+        }
+    }
+    Ok(got)
+}
+
+/// One whole record. The table is there exactly after an accepted first record.
+fn take_record(table: &mut Option<Table>, kind: u8, octets: &[u8]) -> Outcome {
+    let Some(known) = table else {
+        return take_first_record(table, kind, octets);
+    };
+    match kind {
+        KIND_ANNOUNCEMENT => take_announcement(known, octets),
+        KIND_WITHDRAWAL => take_withdrawal(known, octets),
+        KIND_QUERY => take_query(known, octets),
+        _ => bad_record(),
+    }
+}
+
+/// The first record must carry the identifier of the segment.
+fn take_first_record(table: &mut Option<Table>, kind: u8, octets: &[u8]) -> Outcome {
+    match kind {
+        KIND_ESI => take_esi(table, octets),
+        _ => bad_record(),
+    }
+}
+
+fn bad_record() -> Outcome {
+    Outcome::Stop(format!("x {}", Refusal::BadRecord.number()))
+}
+
+/// The text of the identifier. If it is refused, the run ends.
+fn take_esi(table: &mut Option<Table>, text: &[u8]) -> Outcome {
+    match esi::read_text(text) {
+        Ok(esi) => {
+            let (answer, fresh) = Table::fresh(&esi);
+            *table = Some(fresh);
+            Outcome::GoOn(format!("p {}", answer_number(&answer)))
+        }
+        Err(refusal) => Outcome::Stop(format!("p {}", refusal.number())),
+    }
+}
+
+fn take_announcement(table: &mut Table, octets: &[u8]) -> Outcome {
+    if octets.len() < ROUTE_LENGTH {
+        return bad_record();
+    }
+    let (route, communities) = octets.split_at(ROUTE_LENGTH);
+    let answer = table.announce(route, communities);
+    Outcome::GoOn(format!("a {}", answer_number(&answer)))
+}
+
+fn take_withdrawal(table: &mut Table, octets: &[u8]) -> Outcome {
+    let Ok(octets) = <[u8; 4]>::try_from(octets) else {
+        return bad_record();
+    };
+    let answer = table.withdraw(u32::from_be_bytes(octets));
+    Outcome::GoOn(format!("w {}", answer_number(&answer)))
+}
+
+fn take_query(table: &Table, octets: &[u8]) -> Outcome {
+    if octets.len() % 4 != 0 {
+        return bad_record();
+    }
+    let numbers: Vec<u32> = octets.chunks_exact(4).map(number).collect();
+    let Some((tag, ready)) = numbers.split_first() else {
+        return bad_record();
+    };
+    Outcome::GoOn(match election::elect(table, *tag, ready) {
+        Ok(elected) => {
+            let address = Ipv4Addr::from(elected.address);
+            format!("q 0 {address} {}", elected.count)
+        }
+        Err(refusal) => format!("q {}", refusal.number()),
+    })
+}
+
+/// Four octets as a number, high octet first.
+fn number(octets: &[u8]) -> u32 {
+    octets
+        .iter()
+        .fold(0, |number, octet| number << 8 | u32::from(*octet))
+}

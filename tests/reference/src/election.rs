@@ -1,0 +1,109 @@
+//! The election for one Ethernet Tag. Document 01, "The election".
+
+use crate::community::{HIGHEST_PREFERENCE, LOWEST_PREFERENCE};
+use crate::hrw;
+use crate::refusal::Refusal;
+use crate::table::{Entry, Table};
+use std::cmp::Reverse;
+
+pub const DEFAULT_ALGORITHM: u8 = 0;
+pub const HIGHEST_RANDOM_WEIGHT: u8 = 1;
+pub const MAX_READY: usize = 64;
+
+/// The answer of an accepted election. `count` is N; bit i of `candidates` is one exactly if
+/// the entry at place i of the table is eligible.
+#[derive(Clone, Copy, Debug, PartialEq, Eq)]
+pub struct Election {
+    pub address: u32,
+    pub algorithm: u8,
+    pub count: u32,
+    pub candidates: u64,
+}
+
+/// Elects for a tag. Reserved tag, 10; ready list over 64, 11; no eligible router, 12.
+pub fn elect(table: &Table, tag: u32, ready: &[u32]) -> Result<Election, Refusal> {
+    if tag == 0 || tag == u32::MAX {
+        return Err(Refusal::ReservedTag);
+    }
+    if ready.len() > MAX_READY {
+        return Err(Refusal::ReadyLength);
+    }
+    let (algorithm, ac_df) = algorithm_in_use(table.entries());
+    let candidates = candidate_set(table.entries(), ac_df, ready);
+    let eligible = members(table.entries(), candidates);
+    let winner = match algorithm {
+        HIGHEST_RANDOM_WEIGHT => by_weight(&eligible, hrw::digest(tag, table.esi())),
+        HIGHEST_PREFERENCE | LOWEST_PREFERENCE => by_preference(&eligible, algorithm),
+        _ => by_modulus(&eligible, tag),
+    };
+    let winner = winner.ok_or(Refusal::NoEligible)?;
+    Ok(Election {
+        address: winner.address,
+        algorithm,
+        count: candidates.count_ones(),
+        candidates,
+    })
+}
+
+/// The algorithm in use and whether AC-DF is in use. All routes must carry one algorithm from
+/// 0 to 3 and one AC-DF bit; otherwise it is algorithm 0 without AC-DF.
+pub fn algorithm_in_use(entries: &[Entry]) -> (u8, bool) {
+    let Some(first) = entries.first() else {
+        return (DEFAULT_ALGORITHM, false);
+    };
+    let agreed = entries
+        .iter()
+        .all(|entry| entry.algorithm == first.algorithm && entry.ac_df == first.ac_df);
+    if agreed && first.algorithm <= LOWEST_PREFERENCE {
+        (first.algorithm, first.ac_df)
+    } else {
+        (DEFAULT_ALGORITHM, false)
+    }
+}
+
+/// The set of eligible places: all or, with AC-DF in use, those on the ready list.
+fn candidate_set(entries: &[Entry], ac_df: bool, ready: &[u32]) -> u64 {
+    let mut set = 0;
+    for (place, entry) in entries.iter().enumerate() {
+        if !ac_df || ready.contains(&entry.address) {
+            set |= 1 << place;
+        }
+    }
+    set
+}
+
+/// The entries at the places of the set, in rising address order.
+fn members(entries: &[Entry], set: u64) -> Vec<Entry> {
+    entries
+        .iter()
+        .enumerate()
+        .filter(|(place, _)| set >> place & 1 == 1)
+        .map(|(_, entry)| *entry)
+        .collect()
+}
+
+/// Rule 0: counted from 0 in rising address order, the one at tag mod N.
+fn by_modulus(eligible: &[Entry], tag: u32) -> Option<Entry> {
+    if eligible.is_empty() {
+        return None;
+    }
+    eligible.get(tag as usize % eligible.len()).copied()
+}
+
+/// Rule 1: greatest weight, then lowest address.
+fn by_weight(eligible: &[Entry], digest: u32) -> Option<Entry> {
+    eligible
+        .iter()
+        .copied()
+        .min_by_key(|entry| (Reverse(hrw::weight(entry.address, digest)), entry.address))
+}
+
+/// Rules 2 and 3: higher (under 3: lower) preference, then DP set, then lower address.
+pub fn by_preference(eligible: &[Entry], algorithm: u8) -> Option<Entry> {
+    let candidates = eligible.iter().copied();
+    if algorithm == LOWEST_PREFERENCE {
+        candidates.min_by_key(|entry| (entry.preference, Reverse(entry.dp), entry.address))
+    } else {
+        candidates.min_by_key(|entry| (Reverse(entry.preference), Reverse(entry.dp), entry.address))
+    }
+}

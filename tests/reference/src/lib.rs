@@ -1,0 +1,31 @@
+//! A reference of document 01, "What is required and the exact rules", in ordinary Rust.
+//!
+//! Purpose: to stand beside the proved programs in tests. It is written from the document alone
+//! and prefers the plainest form of each rule to a quick one: the table is a sorted `Vec`, the
+//! CRC goes bit by bit, the weight is computed over numbers that cannot run over.
+//!
+//! One module for each section of the document:
+//!
+//! - `refusal`: the refusal numbers
+//! - `esi`: the segment identifier, and its text of 29 characters
+//! - `route`: the Ethernet Segment route
+//! - `community`: the DF Election Extended Community
+//! - `table`: the routes of one segment
+//! - `hrw`: CRC-32, digest and weight
+//! - `election`: the election for one Ethernet Tag
+//! - `returning`: the preference of a returning router
+//! - `bench`: the bench program
+//! - `encode`: text lines to bench records, for a person at the bench
+
+#![forbid(unsafe_code)]
+
+pub mod bench;
+pub mod community;
+pub mod election;
+pub mod encode;
+pub mod esi;
+pub mod hrw;
+pub mod refusal;
+pub mod returning;
+pub mod route;
+pub mod table;

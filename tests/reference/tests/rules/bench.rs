@@ -1,0 +1,212 @@
+//! The bench program: lines, bad records, cut inputs and short reads.
+
+use crate::common::*;
+use reference::bench::run;
+use std::io::Read;
+
+/// The output for an input.
+fn output(input: &[u8]) -> String {
+    let mut output = Vec::new();
+    assert!(run(&mut &input[..], &mut output).is_ok());
+    String::from_utf8_lossy(&output).into_owned()
+}
+
+fn record(kind: u8, body: &[u8]) -> Vec<u8> {
+    let mut octets = vec![0xD5, 0x4F, kind, body.len() as u8];
+    octets.extend(body);
+    octets
+}
+
+fn first() -> Vec<u8> {
+    record(0, ESI_TEXT)
+}
+
+fn announcement(last: u8) -> Vec<u8> {
+    record(1, &route_octets(&ESI, ten(last)))
+}
+
+fn query(tag: u32, ready: &[u32]) -> Vec<u8> {
+    let mut body = tag.to_be_bytes().to_vec();
+    for address in ready {
+        body.extend(address.to_be_bytes());
+    }
+    record(3, &body)
+}
+
+/// The output after the first record.
+fn after_first(rest: &[u8]) -> String {
+    output(&[first(), rest.to_vec()].concat())
+}
+
+#[test]
+fn the_example_of_the_document() {
+    let input = [first(), announcement(1), announcement(2), query(5, &[])].concat();
+    assert_eq!(output(&input), "p 0\na 0\na 0\nq 0 10.0.0.2 2\n");
+}
+
+#[test]
+fn empty_input_prints_nothing() {
+    assert_eq!(output(&[]), "");
+}
+
+#[test]
+fn a_refused_first_record_ends_the_run() {
+    let reserved = record(0, b"00:00:00:00:00:00:00:00:00:00");
+    assert_eq!(output(&[reserved, announcement(1)].concat()), "p 4\n");
+    for length in (0..=255).filter(|length| *length != 29) {
+        let text = vec![b'1'; length];
+        assert_eq!(
+            output(&[record(0, &text), vec![1, 2, 3]].concat()),
+            "p 13\n"
+        );
+    }
+}
+
+#[test]
+fn the_first_record_is_the_identifier_and_no_later_one_is() {
+    assert_eq!(output(&announcement(1)), "x 16\n");
+    assert_eq!(output(&record(2, &[10, 0, 0, 1])), "x 16\n");
+    assert_eq!(output(&query(1, &[])), "x 16\n");
+    assert_eq!(
+        after_first(&[first(), announcement(1)].concat()),
+        "p 0\nx 16\n"
+    );
+}
+
+#[test]
+fn every_kind_and_mark() {
+    for value in 0..=255u8 {
+        let mut octets = query(1, &[]);
+        octets[2] = value;
+        let expected = match value {
+            2 => "p 0\nw 9\n",
+            3 => "p 0\nq 12\n",
+            _ => "p 0\nx 16\n",
+        };
+        assert_eq!(after_first(&octets), expected);
+        for (place, good) in [(0, 0xD5), (1, 0x4F)] {
+            let mut octets = query(1, &[]);
+            octets[place] = value;
+            let expected = if value == good {
+                "p 0\nq 12\n"
+            } else {
+                "p 0\nx 16\n"
+            };
+            assert_eq!(after_first(&octets), expected);
+        }
+    }
+}
+
+#[test]
+fn every_length_of_every_kind() {
+    for length in 0..=255usize {
+        let zeros = vec![0; length];
+        let expected = if length < 25 {
+            "p 0\nx 16\n"
+        } else {
+            "p 0\na 2\n"
+        };
+        assert_eq!(after_first(&record(1, &zeros)), expected);
+        let expected = if length == 4 {
+            "p 0\nw 6\n"
+        } else {
+            "p 0\nx 16\n"
+        };
+        assert_eq!(after_first(&record(2, &zeros)), expected);
+        let good = length >= 4 && length % 4 == 0;
+        let expected = if good { "p 0\nq 10\n" } else { "p 0\nx 16\n" };
+        assert_eq!(after_first(&record(3, &zeros)), expected);
+    }
+}
+
+#[test]
+fn community_lengths_in_a_record() {
+    for length in 0..=230usize {
+        let mut body = route_octets(&ESI, ten(1));
+        body.extend(vec![0; length]);
+        let expected = if length % 8 == 0 {
+            "p 0\na 0\n"
+        } else {
+            "p 0\na 7\n"
+        };
+        assert_eq!(after_first(&record(1, &body)), expected);
+    }
+}
+
+#[test]
+fn an_input_cut_at_every_octet() {
+    let records = [
+        first(),
+        announcement(1),
+        query(1, &[ten(1)]),
+        record(2, &[10, 0, 0, 1]),
+    ];
+    let lines = ["p 0\n", "a 0\n", "q 0 10.0.0.1 1\n", "w 0\n"];
+    let input = records.concat();
+    for cut in 0..=input.len() {
+        let mut expected = String::new();
+        let mut end = 0;
+        for (record, line) in records.iter().zip(lines) {
+            if end == cut {
+                break;
+            }
+            end += record.len();
+            expected.push_str(if end <= cut { line } else { "x 16\n" });
+            if end > cut {
+                break;
+            }
+        }
+        assert_eq!(output(&input[..cut]), expected, "cut at {cut}");
+    }
+}
+
+#[test]
+fn stray_octets_at_the_end() {
+    assert_eq!(after_first(&[0xD5]), "p 0\nx 16\n");
+    assert_eq!(after_first(&[0x0A]), "p 0\nx 16\n");
+    assert_eq!(after_first(&[0xD5, 0x4F, 3, 0]), "p 0\nx 16\n");
+}
+
+#[test]
+fn refused_calls_print_their_number_and_go_on() {
+    let zero = record(1, &route_octets(&ESI, 0));
+    let other = record(1, &route_octets(&OTHER_ESI, ten(1)));
+    let absent = record(2, &[10, 0, 0, 1]);
+    let rest = [
+        zero,
+        other,
+        absent,
+        query(0, &[]),
+        query(1, &[]),
+        announcement(1),
+        query(1, &[]),
+    ];
+    assert_eq!(
+        after_first(&rest.concat()),
+        "p 0\na 6\na 5\nw 9\nq 10\nq 12\na 0\nq 0 10.0.0.1 1\n"
+    );
+}
+
+/// A reader that gives one octet at a time.
+struct Drip<'a>(&'a [u8]);
+
+impl Read for Drip<'_> {
+    fn read(&mut self, buffer: &mut [u8]) -> std::io::Result<usize> {
+        match (self.0.split_first(), buffer.first_mut()) {
+            (Some((octet, rest)), Some(slot)) => {
+                *slot = *octet;
+                self.0 = rest;
+                Ok(1)
+            }
+            _ => Ok(0),
+        }
+    }
+}
+
+#[test]
+fn short_reads_change_nothing() {
+    let input = [first(), announcement(1), announcement(2), query(5, &[])].concat();
+    let mut dripped = Vec::new();
+    assert!(run(&mut Drip(&input), &mut dripped).is_ok());
+    assert_eq!(dripped, output(&input).as_bytes());
+}

@@ -1,0 +1,99 @@
+//! What the tests share: one segment, its routes and communities, and quick calls.
+
+use reference::community::{self, Community};
+use reference::election::{elect, Election};
+use reference::refusal::Refusal;
+use reference::table::Table;
+
+pub const ESI: [u8; 10] = [0x00, 0x11, 0x22, 0x33, 0x44, 0x55, 0x66, 0x77, 0x88, 0x99];
+pub const OTHER_ESI: [u8; 10] = [0x00, 0x11, 0x22, 0x33, 0x44, 0x55, 0x66, 0x77, 0x88, 0x98];
+pub const ESI_TEXT: &[u8] = b"00:11:22:33:44:55:66:77:88:99";
+
+/// The address 10.0.0.`last`.
+pub fn ten(last: u8) -> u32 {
+    u32::from_be_bytes([10, 0, 0, last])
+}
+
+/// The 25 octets of a route, written out by hand and unchecked.
+pub fn route_octets(esi: &[u8; 10], address: u32) -> Vec<u8> {
+    let mut octets = vec![4, 23, 1, 2, 3, 4, 5, 6, 7, 8];
+    octets.extend(esi);
+    octets.push(32);
+    octets.extend(address.to_be_bytes());
+    octets
+}
+
+/// The 8 octets of an election community, all bits as given.
+pub fn community_octets(algorithm: u8, ac_df: bool, dp: bool, preference: u16) -> Vec<u8> {
+    let capability = u8::from(dp) << 7 | u8::from(ac_df) << 6;
+    let [high, low] = preference.to_be_bytes();
+    vec![6, 6, algorithm, capability, 0, 0, high, low]
+}
+
+/// A fresh table of the test segment.
+pub fn fresh() -> Table {
+    let (answer, table) = Table::fresh(&ESI);
+    assert_eq!(answer, Ok(()));
+    table
+}
+
+/// Announces an address with one community.
+pub fn announce(table: &mut Table, address: u32, community: &[u8]) {
+    let answer = table.announce(&route_octets(&ESI, address), community);
+    assert_eq!(answer, Ok(()));
+}
+
+/// A table of routes (address, algorithm, AC-DF, DP, preference).
+pub fn table_of(routes: &[(u32, u8, bool, bool, u16)]) -> Table {
+    let mut table = fresh();
+    for (address, algorithm, ac_df, dp, preference) in routes {
+        let community = community_octets(*algorithm, *ac_df, *dp, *preference);
+        announce(&mut table, *address, &community);
+    }
+    table
+}
+
+/// A table of routes (address, preference, DP) that all carry one algorithm, without AC-DF.
+pub fn preference_table(algorithm: u8, routes: &[(u32, u16, bool)]) -> Table {
+    let full: Vec<_> = routes
+        .iter()
+        .map(|(address, preference, dp)| (*address, algorithm, false, *dp, *preference))
+        .collect();
+    table_of(&full)
+}
+
+/// A table of 64 routes without communities, 10.0.0.1 to 10.0.0.64.
+pub fn full_table() -> Table {
+    let mut table = fresh();
+    for last in 1..=64 {
+        announce(&mut table, ten(last), &[]);
+    }
+    table
+}
+
+/// The elected address with an empty ready list.
+pub fn elected(table: &Table, tag: u32) -> Result<u32, Refusal> {
+    elect(table, tag, &[]).map(|election| election.address)
+}
+
+/// The whole answer of an election.
+pub fn answer(
+    address: u32,
+    algorithm: u8,
+    count: u32,
+    candidates: u64,
+) -> Result<Election, Refusal> {
+    Ok(Election {
+        address,
+        algorithm,
+        count,
+        candidates,
+    })
+}
+
+/// The octets that the writer gives for a community.
+pub fn written(community: &Community) -> [u8; 8] {
+    let mut buffer = [0xAA; 8];
+    assert_eq!(community::write(community, &mut buffer), Ok(()));
+    buffer
+}

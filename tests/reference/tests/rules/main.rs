@@ -1,0 +1,16 @@
+//! The tests of the reference: every value of document 01, the worked examples of RFC 9785,
+//! the slips the document names, the order of every list of checks, and lengths at their limits.
+
+mod bench;
+mod common;
+mod community;
+mod election;
+mod encode;
+mod esi;
+mod hrw;
+mod returning;
+mod rfc9785;
+mod route;
+mod slips;
+mod table;
+mod values;
