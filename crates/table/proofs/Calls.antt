@@ -78,7 +78,7 @@ missing-told false r i h = (refl, cc)
 -- WHAT `find` SAYS, and what the calls do with it
 module _ (t : Table) (w : WellFormed t) where
   module _ (k i : ℕ) (h : foundIn k (live t) ≡ At i) where
-    at-rank : i ≡ rank keyOf k (live t)
+    pub at-rank : i ≡ rank keyOf k (live t)
     unfolding foundIn
     at-rank = at-told (has keyOf k (live t)) (rank keyOf k (live t)) i h .1
 
@@ -86,7 +86,7 @@ module _ (t : Table) (w : WellFormed t) where
     unfolding foundIn
     at-there = at-told (has keyOf k (live t)) (rank keyOf k (live t)) i h .0
 
-    present : keyed.Present keyOf k (live t) none
+    pub present : keyed.Present keyOf k (live t) none
     present = keyed.present-of keyOf k (live t) 1 none (w .rising) at-there
 
     pub at-length : i < length (live t)

@@ -148,11 +148,11 @@ fn admit(t: Table, e: Entry) -> Change
     let found = find(t, e.address);
     match found {
         Found::At(at) => {
-            let mut u = t;
-            u.entries[at] = e;
+            let mut replaced = t;
+            replaced.entries[at] = e;
             Change {
                 number: 0,
-                table: u,
+                table: replaced,
             }
         }
         Found::Missing(at) => {

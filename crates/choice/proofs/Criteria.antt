@@ -1,0 +1,230 @@
+-- Criteria in their order make a strict order (`Order` of Laws.antt), and over a list whose keys rise the best by a score is the first with the greatest.
+-- Assumes nothing.
+use Prim.Native.Nat.{ℕ, zero, suc, _≤_, _<_, zero-le, suc-le-suc}
+use native.Mathlib.Nat.{le-of-suc-le-suc, not-suc-le-zero, le-refl, zero-lt-suc}
+use native.Mathlib.Omega.{arith}
+use mathlib.Core.Path.{_≡_, refl, ap, sym, _∙_, subst}
+use mathlib.Core.Bool.{Bool, true, false, cond, not, _&&_}
+use mathlib.Core.List.{List, [], _∷_, List·Memᴰ, List·Memᴰ·head, List·Memᴰ·tail, List·Memᴰ·not-nil}
+use lib.ListN.{length, getD}
+use lib.Arith.{lt-of-le-ne}
+use borrow.Author.Tests.{ltb-true, ltb-false, lt-ltb, le-ltb}
+use Rattle.choice.specs.Choice.{best, decided, higher, lower, flagged, andThen, byScore}
+use Rattle.choice.proofs.Laws.{Order, Unique, true-false, not-true-false, not-false-true, at-mem, best-at, best-top}
+
+-- ---- one criterion
+
+-- a criterion may leave elements level: two never win over each other, and not to win is carried on from one to the next
+pub record Criterion {A : Type 0} (wins : A → A → Bool) : Type 0 where
+  pub asym : (a b : A) → wins a b ≡ true → wins b a ≡ false
+  pub through : (a b c : A) → wins a b ≡ false → wins b c ≡ false → wins a c ≡ false
+
+flag-asym : (a b : Bool) → (a && not b) ≡ true → (b && not a) ≡ false
+flag-asym true true p = refl
+flag-asym true false p = refl
+flag-asym false b p = absurd (true-false p refl)
+
+flag-through : (a b c : Bool) → (a && not b) ≡ false → (b && not c) ≡ false → (a && not c) ≡ false
+flag-through true true c p q = q
+flag-through true false c p q = absurd (true-false refl p)
+flag-through false b c p q = refl
+
+module _ {A : Type 0} where
+  pub criterion-lower : (f : A → ℕ) → Criterion (lower f)
+  criterion-lower f =
+      record {
+        asym = λ a b p. le-ltb (f b) (f a) (omega (arith, ltb-true (f a) (f b) p));
+        through = λ a b c p q. le-ltb (f a) (f c) (omega (arith, ltb-false (f a) (f b) p, ltb-false (f b) (f c) q));
+      }
+
+  -- a criterion turned round is one
+  pub criterion-turned : (wins : A → A → Bool) → Criterion wins → Criterion (λ (a b : A). wins b a)
+  criterion-turned wins w = record { asym = λ a b. w .asym b a; through = λ a b c p q. w .through c b a q p }
+
+  pub criterion-higher : (f : A → ℕ) → Criterion (higher f)
+  criterion-higher f = criterion-turned (lower f) (criterion-lower f)
+
+  pub criterion-flagged : (f : A → Bool) → Criterion (flagged f)
+  criterion-flagged f = record { asym = λ a b. flag-asym (f a) (f b); through = λ a b c. flag-through (f a) (f b) (f c) }
+
+  -- the last criterion tells all keys apart
+  pub order-lower : (key : A → ℕ) → Order key (lower key)
+  order-lower key =
+      record {
+        asym = criterion-lower key .asym;
+        trans = λ a b c p q. lt-ltb (key a) (key c) (omega (arith, ltb-true (key a) (key b) p, ltb-true (key b) (key c) q));
+        tells = λ a b p q. omega (arith, ltb-false (key a) (key b) p, ltb-false (key b) (key a) q);
+      }
+
+-- ---- criteria in their order
+
+module _ {A : Type 0} (wins later : A → A → Bool) where
+  pub then-won : (a b : A) → wins a b ≡ true → andThen wins later a b ≡ true
+  then-won a b p = rw p
+
+  pub then-lost : (a b : A) → wins a b ≡ false → wins b a ≡ true → andThen wins later a b ≡ false
+  then-lost a b p q = rw (p, q)
+
+  pub then-level : (a b : A) → wins a b ≡ false → wins b a ≡ false → andThen wins later a b ≡ later a b
+  then-level a b p q = rw (p, q)
+
+  -- how a can be preferred to b
+  data Won (a b : A) : Type 0 where
+    first : wins a b ≡ true → Won a b
+    second : wins a b ≡ false → wins b a ≡ false → later a b ≡ true → Won a b
+
+  won : (a b : A) → andThen wins later a b ≡ true → Won a b
+  won a b h = go (wins a b) (wins b a) refl refl
+    where
+      go : (s t : Bool) → wins a b ≡ s → wins b a ≡ t → Won a b
+      go true t p q = first p
+      go false true p q = absurd (true-false h (then-lost a b p q))
+      go false false p q = second p q (sym (then-level a b p q) ∙ h)
+
+  module _ (w : Criterion wins) where
+    -- a win is carried on by one who is not behind
+    win-left : (a b c : A) → wins a b ≡ true → wins c b ≡ false → wins a c ≡ true
+    win-left a b c p q = not-false-true (λ r. true-false p (w .through a c b r q))
+
+    win-right : (a b c : A) → wins b a ≡ false → wins b c ≡ true → wins a c ≡ true
+    win-right a b c p q = not-false-true (λ r. true-false q (w .through b a c p r))
+
+  module _ (key : A → ℕ) (w : Criterion wins) (o : Order key later) where
+    then-asym : (a b : A) → Won a b → andThen wins later b a ≡ false
+    then-asym a b (first p) = then-lost b a (w .asym a b p) p
+    then-asym a b (second p q h) = then-level b a q p ∙ o .asym a b h
+
+    then-trans : (a b c : A) → Won a b → Won b c → andThen wins later a c ≡ true
+    then-trans a b c (first p) (first r) = then-won a c (win-left w a b c p (w .asym b c r))
+    then-trans a b c (first p) (second r s k) = then-won a c (win-left w a b c p s)
+    then-trans a b c (second p q h) (first r) = then-won a c (win-right w a b c q r)
+    then-trans a b c (second p q h) (second r s k) = then-level a c (w .through a b c p r) (w .through c b a s q) ∙ o .trans a b c h k
+
+    then-tells : (a b : A) → andThen wins later a b ≡ false → andThen wins later b a ≡ false → key a ≡ key b
+    then-tells a b h k =
+        let p : wins a b ≡ false = not-true-false (λ r. true-false (then-won a b r) h) in
+        let q : wins b a ≡ false = not-true-false (λ r. true-false (then-won b a r) k) in
+        o .tells a b (sym (then-level a b p q) ∙ h) (sym (then-level b a q p) ∙ k)
+
+    -- a criterion and then an order are an order
+    pub order-then : Order key (andThen wins later)
+    order-then =
+        record {
+          asym = λ a b h. then-asym a b (won a b h);
+          trans = λ a b c h k. then-trans a b c (won a b h) (won b c k);
+          tells = then-tells;
+        }
+
+-- ---- by a score, then by the lower key
+
+decided-none : (p q : Bool) → decided p q false ≡ p
+decided-none true q = refl
+decided-none false true = refl
+decided-none false false = refl
+
+module _ {A : Type 0} (score key : A → ℕ) where
+  pub order-byScore : Order key (byScore score key)
+  order-byScore = order-then (higher score) (lower key) key (criterion-higher score) (order-lower key)
+
+  -- what it says of an a that is not better than b
+  pub byScore-false : (a b : A) → byScore score key a b ≡ false → (score a ≤ score b) × (score a ≡ score b → key b ≤ key a)
+  byScore-false a b h = (
+    ltb-false (score b) (score a) (not-true-false (λ p. true-false (then-won (higher score) (lower key) a b p) h)),
+    λ e. ltb-false (key a) (key b)
+        (sym (then-level (higher score) (lower key) a b (le-ltb (score b) (score a) (omega arith)) (le-ltb (score a) (score b) (omega arith))) ∙ h),
+  )
+
+-- ---- lists whose keys rise
+
+module _ {A : Type 0} (key : A → ℕ) where
+  -- each key of l is at least n, and above the one before it
+  abbrev pub Ascending : ℕ → List A → Type 0
+  Ascending n [] = Unit {0}
+  Ascending n (x ∷ l) = (n ≤ key x) × Ascending (suc (key x)) l
+
+  pub ascending-weaken : (m n : ℕ) (l : List A) → m ≤ n → Ascending n l → Ascending m l
+  ascending-weaken m n [] h r = tt
+  ascending-weaken m n (x ∷ l) h r = (omega (arith, r .0), r .1)
+
+  ascending-mem : (n : ℕ) (l : List A) {a : A} → Ascending n l → List·Memᴰ a l → n ≤ key a
+  ascending-mem n [] r h = absurd (List·Memᴰ·not-nil h)
+  ascending-mem n (x ∷ l) r (List·Memᴰ·head e) = omega (arith, ap key e, r .0)
+  ascending-mem n (x ∷ l) r (List·Memᴰ·tail h) = omega (arith, ascending-mem (suc (key x)) l (r .1) h, r .0)
+
+  -- a key belongs to one element
+  pub unique-ascending : (n : ℕ) (l : List A) → Ascending n l → Unique key l
+  unique-ascending n [] r a b h k e = absurd (List·Memᴰ·not-nil h)
+  unique-ascending n (x ∷ l) r a b (List·Memᴰ·head p) (List·Memᴰ·head q) e = p ∙ sym q
+  unique-ascending n (x ∷ l) r a b (List·Memᴰ·head p) (List·Memᴰ·tail k) e =
+      absurd (omega (arith, ap key p, ascending-mem (suc (key x)) l (r .1) k))
+  unique-ascending n (x ∷ l) r a b (List·Memᴰ·tail h) (List·Memᴰ·head q) e =
+      absurd (omega (arith, ap key q, ascending-mem (suc (key x)) l (r .1) h))
+  unique-ascending n (x ∷ l) r a b (List·Memᴰ·tail h) (List·Memᴰ·tail k) e = unique-ascending (suc (key x)) l (r .1) a b h k e
+
+  -- the same by places
+  abbrev pub AscendingAt : List A → A → Type 0
+  AscendingAt l d = (i j : ℕ) → i < j → j < length l → key (getD l i d) < key (getD l j d)
+
+  pub ascending-at : (n : ℕ) (l : List A) (d : A) → Ascending n l → AscendingAt l d
+  ascending-at n [] d r i j g h = absurd (not-suc-le-zero h)
+  ascending-at n (x ∷ l) d r i zero g h = absurd (not-suc-le-zero g)
+  ascending-at n (x ∷ l) d r zero (suc j) g h = ascending-mem (suc (key x)) l (r .1) (at-mem l j d (le-of-suc-le-suc h))
+  ascending-at n (x ∷ l) d r (suc i) (suc j) g h = ascending-at (suc (key x)) l d (r .1) i j (le-of-suc-le-suc g) (le-of-suc-le-suc h)
+
+  ascending-from : (n : ℕ) (l : List A) (d : A) → (0 < length l → n ≤ key (getD l 0 d)) → AscendingAt l d → Ascending n l
+  ascending-from n [] d b f = tt
+  ascending-from n (x ∷ l) d b f = (
+    b (zero-lt-suc (length l)),
+    ascending-from (suc (key x)) l d (λ h. f 0 1 (zero-lt-suc 0) (suc-le-suc h)) (λ i j g h. f (suc i) (suc j) (suc-le-suc g) (suc-le-suc h)),
+  )
+
+  pub ascending-of : (l : List A) (d : A) → AscendingAt l d → Ascending 0 l
+  ascending-of l d f = ascending-from 0 l d (λ h. zero-le) f
+
+-- ---- the first with the greatest score
+
+module _ {A : Type 0} (wins : A → A → Bool) (key : A → ℕ) where
+  -- of two elements in rising order of their keys the later one is better only by the criterion itself
+  pub then-later : (x y : A) → key x < key y → andThen wins (lower key) y x ≡ wins y x
+  then-later x y h = rw (le-ltb (key y) (key x) (omega arith)) (decided-none (wins y x) (wins x y))
+
+  later-step : (x y : A) (l : List A) (t : Bool) → Ascending key (suc (key x)) (y ∷ l) → Ascending key (suc (key (cond t y x))) l
+  later-step x y l true r = r .1
+  later-step x y l false r = ascending-weaken key (suc (key x)) (suc (key y)) l (omega (arith, r .0)) (r .1)
+
+  -- so over a list whose keys rise, a walk by the criterion alone finds the best
+  pub best-later : (x : A) (l : List A) → Ascending key (suc (key x)) l → best (andThen wins (lower key)) x l ≡ best wins x l
+  unfolding best
+  best-later x [] r = refl
+  best-later x (y ∷ l) r = rw (then-later x y (r .0)) (best-later (cond (wins y x) y x) l (later-step x y l (wins y x) r))
+
+module _ {A : Type 0} (score key : A → ℕ) where
+  -- none has a greater score, and of those with the same score none has a lower key
+  pub best-score : (x : A) (l : List A) → Unique key (x ∷ l) → (b : A) → List·Memᴰ b (x ∷ l)
+      → (score b ≤ score (best (byScore score key) x l)) × (score b ≡ score (best (byScore score key) x l) → key (best (byScore score key) x l) ≤ key b)
+  best-score x l u b h =
+      byScore-false score key b (best (byScore score key) x l) (best-top key (byScore score key) (order-byScore score key) x l u b h)
+
+  -- where keys rise, a walk that changes over only for a greater score finds it
+  pub best-walk : (x : A) (l : List A) → Ascending key (suc (key x)) l → best (byScore score key) x l ≡ best (higher score) x l
+  best-walk = best-later (higher score) key
+
+  -- and it is the first of the list with that score
+  pub best-first : (x : A) (l : List A) (d : A) → Ascending key (suc (key x)) l
+      → (i : ℕ) × (i < length (x ∷ l)) × (getD (x ∷ l) i d ≡ best (byScore score key) x l)
+      × ((j : ℕ) → j < i → score (getD (x ∷ l) j d) < score (best (byScore score key) x l))
+  best-first x l d r = (t .0, t .1, t .2, before)
+    where
+      t : (i : ℕ) × (i < length (x ∷ l)) × (getD (x ∷ l) i d ≡ best (byScore score key) x l)
+      t = best-at (byScore score key) x l d
+
+      rise : Ascending key (key x) (x ∷ l)
+      rise = (le-refl (key x), r)
+
+      before : (j : ℕ) → j < t .0 → score (getD (x ∷ l) j d) < score (best (byScore score key) x l)
+      before j g =
+          let u : Unique key (x ∷ l) = unique-ascending key (key x) (x ∷ l) rise in
+          let s = best-score x l u (getD (x ∷ l) j d) (at-mem (x ∷ l) j d (omega (arith, t .1))) in
+          let k : key (getD (x ∷ l) j d) < key (best (byScore score key) x l) =
+          subst (λ (a : A). key (getD (x ∷ l) j d) < key a) (t .2) (ascending-at key (key x) (x ∷ l) d rise j (t .0) g (t .1)) in
+          lt-of-le-ne (s .0) (λ e. omega (arith, s .1 e))

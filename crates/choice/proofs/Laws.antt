@@ -1,0 +1,218 @@
+-- Laws of `specs/Choice.antt`, over any element: the best of a list is in it, nothing in it is better, and it is the only such element, so it does not
+-- depend on how the list is walked, and losers may come and go.
+-- Assumes nothing.
+use Prim.Native.Nat.{ℕ, zero, suc, _<_}
+use native.Mathlib.Nat.{le-of-suc-le-suc, not-suc-le-zero, zero-lt-suc}
+use native.Mathlib.Omega.{arith}
+use mathlib.Core.Path.{_≡_, refl, ap, sym, _∙_}
+use mathlib.Core.Logic.{⊎-elim}
+use mathlib.Core.Bool.{Bool, true, false, cond, not}
+use mathlib.Core.List.{List, [], _∷_, _++_, map, List·Memᴰ, List·Memᴰ·head, List·Memᴰ·tail, List·Memᴰ·not-nil, List·Memᴰ·append-cases, List·Memᴰ·eq-of-singleton, Memᴰ·append-left, Memᴰ·append-right, List·Permᴰ, List·Permᴰ·nil, List·Permᴰ·cons, List·Permᴰ·swap, List·Permᴰ·trans, Permᴰ·symm}
+use lib.ListN.{length, getD}
+use lib.Dec.{eqb}
+use borrow.Author.Tests.{ne-eqb}
+use Rattle.choice.specs.Choice.{best, bestOf, kept}
+
+-- ---- tests and members
+
+pub true-false : {b : Bool} → b ≡ true → b ≡ false → ⊥
+true-false p q = let z : _≡_ {A = ℕ} 0 1 = cc in omega arith
+
+-- a test that is not true is false, and the other way round
+pub not-true-false : {b : Bool} → (b ≡ true → ⊥) → b ≡ false
+not-true-false {b = true} n = absurd (n refl)
+not-true-false {b = false} n = refl
+
+pub not-false-true : {b : Bool} → (b ≡ false → ⊥) → b ≡ true
+not-false-true {b = true} n = refl
+not-false-true {b = false} n = absurd (n refl)
+
+module _ {A : Type 0} where
+  -- an element of a list stands at a place of it, and what stands there is an element
+  pub mem-at : {a : A} {l : List A} (d : A) → List·Memᴰ a l → (i : ℕ) × (i < length l) × (getD l i d ≡ a)
+  mem-at d (List·Memᴰ·head e) = (zero, zero-lt-suc _, sym e)
+  mem-at d (List·Memᴰ·tail m) = let t = mem-at d m in (suc (t .0), omega (arith, t .1), t .2)
+
+  pub at-mem : (l : List A) (i : ℕ) (d : A) → i < length l → List·Memᴰ (getD l i d) l
+  at-mem [] i d h = absurd (not-suc-le-zero h)
+  at-mem (x ∷ l) zero d h = List·Memᴰ·head refl
+  at-mem (x ∷ l) (suc i) d h = List·Memᴰ·tail (at-mem l i d (le-of-suc-le-suc h))
+
+  pub mem-perm : {a : A} {l m : List A} → List·Permᴰ l m → List·Memᴰ a l → List·Memᴰ a m
+  mem-perm List·Permᴰ·nil h = h
+  mem-perm (List·Permᴰ·cons e p) (List·Memᴰ·head q) = List·Memᴰ·head (q ∙ e)
+  mem-perm (List·Permᴰ·cons e p) (List·Memᴰ·tail h) = List·Memᴰ·tail (mem-perm p h)
+  mem-perm (List·Permᴰ·swap e f) (List·Memᴰ·head q) = List·Memᴰ·tail (List·Memᴰ·head (q ∙ e))
+  mem-perm (List·Permᴰ·swap e f) (List·Memᴰ·tail (List·Memᴰ·head q)) = List·Memᴰ·head (q ∙ f)
+  mem-perm (List·Permᴰ·swap e f) (List·Memᴰ·tail (List·Memᴰ·tail h)) = List·Memᴰ·tail (List·Memᴰ·tail h)
+  mem-perm (List·Permᴰ·trans p q) h = mem-perm q (mem-perm p h)
+
+  mem-under : {a x : A} {l m : List A} → (List·Memᴰ a m → List·Memᴰ a l) → List·Memᴰ a (x ∷ m) → List·Memᴰ a (x ∷ l)
+  mem-under f (List·Memᴰ·head e) = List·Memᴰ·head e
+  mem-under f (List·Memᴰ·tail h) = List·Memᴰ·tail (f h)
+
+  -- what a test keeps
+  module _ (keep : A → Bool) where
+    pub kept-true : (x : A) (l : List A) → keep x ≡ true → kept keep (x ∷ l) ≡ x ∷ kept keep l
+    unfolding kept
+    kept-true x l e = rw e
+
+    pub kept-false : (x : A) (l : List A) → keep x ≡ false → kept keep (x ∷ l) ≡ kept keep l
+    unfolding kept
+    kept-false x l e = rw e
+
+    pub mem-kept : (l : List A) {a : A} → List·Memᴰ a (kept keep l) → List·Memᴰ a l
+    unfolding kept
+    mem-kept [] h = h
+    mem-kept (x ∷ l) {a} h = go (keep x) refl (mem-kept l)
+      where
+        go : (t : Bool) → keep x ≡ t → (List·Memᴰ a (kept keep l) → List·Memᴰ a l) → List·Memᴰ a (x ∷ l)
+        go true e ih = mem-under ih (rw (kept-true x l e) at h)
+        go false e ih = List·Memᴰ·tail (ih (rw (kept-false x l e) at h))
+
+    pub kept-mem : {a : A} {l : List A} → keep a ≡ true → List·Memᴰ a l → List·Memᴰ a (kept keep l)
+    unfolding kept
+    kept-mem k (List·Memᴰ·head e) = rw (ap keep (sym e) ∙ k) (List·Memᴰ·head e)
+    kept-mem k (List·Memᴰ·tail {x = x} m) = Memᴰ·append-right (cond (keep x) (x ∷ []) []) (kept-mem k m)
+
+-- ---- the walk, step by step
+
+module _ {A : Type 0} (better : A → A → Bool) where
+  pub best-none : (x : A) → best better x [] ≡ x
+  unfolding best
+  best-none x = refl
+
+  pub best-wins : (x y : A) (l : List A) → better y x ≡ true → best better x (y ∷ l) ≡ best better y l
+  unfolding best
+  best-wins x y l e = rw e
+
+  pub best-stays : (x y : A) (l : List A) → better y x ≡ false → best better x (y ∷ l) ≡ best better x l
+  unfolding best
+  best-stays x y l e = rw e
+
+  pub bestOf-none : (d : A) → bestOf better d [] ≡ d
+  unfolding bestOf
+  bestOf-none d = refl
+
+  pub bestOf-cons : (d x : A) (l : List A) → bestOf better d (x ∷ l) ≡ best better x l
+  unfolding bestOf
+  bestOf-cons d x l = refl
+
+  -- a walk over names of the elements
+  cond-of : {B : Type 0} (f : B → A) (t : Bool) (x y : B) → f (cond t x y) ≡ cond t (f x) (f y)
+  cond-of f true x y = refl
+  cond-of f false x y = refl
+
+  pub best-map : {B : Type 0} (f : B → A) (x : B) (l : List B) → f (best (λ (a b : B). better (f a) (f b)) x l) ≡ best better (f x) (map f l)
+  unfolding best
+  best-map f x [] = refl
+  best-map f x (y ∷ l) =
+      best-map f (cond (better (f y) (f x)) y x) l ∙ ap (λ (z : A). best better z (map f l)) (cond-of f (better (f y) (f x)) y x)
+
+  -- the best is in the list
+  mem-walk : {a x y : A} {l : List A} (t : Bool) → List·Memᴰ a (cond t y x ∷ l) → List·Memᴰ a (x ∷ y ∷ l)
+  mem-walk true m = List·Memᴰ·tail m
+  mem-walk false (List·Memᴰ·head e) = List·Memᴰ·head e
+  mem-walk false (List·Memᴰ·tail m) = List·Memᴰ·tail (List·Memᴰ·tail m)
+
+  pub best-in : (x : A) (l : List A) → List·Memᴰ (best better x l) (x ∷ l)
+  unfolding best
+  best-in x [] = List·Memᴰ·head refl
+  best-in x (y ∷ l) = mem-walk (better y x) (best-in (cond (better y x) y x) l)
+
+  pub best-at : (x : A) (l : List A) (d : A) → (i : ℕ) × (i < length (x ∷ l)) × (getD (x ∷ l) i d ≡ best better x l)
+  best-at x l d = mem-at d (best-in x l)
+
+-- ---- strict orders that tell keys apart
+
+-- an order in which no two elements of different keys are level
+pub record Order {A : Type 0} (key : A → ℕ) (better : A → A → Bool) : Type 0 where
+  pub asym : (a b : A) → better a b ≡ true → better b a ≡ false
+  pub trans : (a b c : A) → better a b ≡ true → better b c ≡ true → better a c ≡ true
+  pub tells : (a b : A) → better a b ≡ false → better b a ≡ false → key a ≡ key b
+
+module _ {A : Type 0} (key : A → ℕ) where
+  -- elements of l that have one key are one element (it may stand in l more than once)
+  abbrev pub Unique : List A → Type 0
+  Unique l = (a b : A) → List·Memᴰ a l → List·Memᴰ b l → key a ≡ key b → a ≡ b
+
+  pub unique-sub : {l m : List A} → ((a : A) → List·Memᴰ a m → List·Memᴰ a l) → Unique l → Unique m
+  unique-sub f u a b h k e = u a b (f a h) (f b k) e
+
+module _ {A : Type 0} (key : A → ℕ) (better : A → A → Bool) (o : Order key better) where
+  irreflexive : (a : A) → better a a ≡ false
+  irreflexive a = not-true-false (λ p. true-false p (o .asym a a p))
+
+  -- what is worse than z is no better than an m that z is no better than
+  worse : (z w m : A) → better z w ≡ true → better z m ≡ false → better w m ≡ false
+  worse z w m p q = not-true-false (λ r. true-false (o .trans z w m p r) q)
+
+  -- one step of the walk: nothing that was passed is better than m
+  top-step : (x y m : A) (l : List A) → Unique key (x ∷ y ∷ l) → (t : Bool) → better y x ≡ t
+      → ((b : A) → List·Memᴰ b (cond t y x ∷ l) → better b m ≡ false) → (b : A) → List·Memᴰ b (x ∷ y ∷ l) → better b m ≡ false
+  top-step x y m l u true p ih b (List·Memᴰ·head e) = ap (λ (a : A). better a m) e ∙ worse y x m p (ih y (List·Memᴰ·head refl))
+  top-step x y m l u true p ih b (List·Memᴰ·tail h) = ih b h
+  top-step x y m l u false p ih b (List·Memᴰ·head e) = ih b (List·Memᴰ·head e)
+  top-step x y m l u false p ih b (List·Memᴰ·tail (List·Memᴰ·head e)) = ap (λ (a : A). better a m) e ∙ go (better x y) refl
+    where
+      go : (t : Bool) → better x y ≡ t → better y m ≡ false
+      go true q = worse x y m q (ih x (List·Memᴰ·head refl))
+      go false q = ih y (List·Memᴰ·head (u y x (List·Memᴰ·tail (List·Memᴰ·head refl)) (List·Memᴰ·head refl) (o .tells y x p q)))
+  top-step x y m l u false p ih b (List·Memᴰ·tail (List·Memᴰ·tail h)) = ih b (List·Memᴰ·tail h)
+
+  -- no element of the list is better than the best
+  pub best-top : (x : A) (l : List A) → Unique key (x ∷ l) → (b : A) → List·Memᴰ b (x ∷ l) → better b (best better x l) ≡ false
+  unfolding best
+  best-top x [] u b h = ap (λ (a : A). better a x) (List·Memᴰ·eq-of-singleton h) ∙ irreflexive x
+  best-top x (y ∷ l) u b h =
+      let z = cond (better y x) y x in
+      top-step x y (best better z l) l u (better y x) refl (best-top z l (unique-sub key (λ a. mem-walk better (better y x)) u)) b h
+
+  module _ (x : A) (l : List A) (u : Unique key (x ∷ l)) where
+    -- an element with another key is worse
+    pub best-beats : (b : A) → List·Memᴰ b (x ∷ l) → (key b ≡ key (best better x l) → ⊥) → better (best better x l) b ≡ true
+    best-beats b h n = not-false-true (λ p. n (o .tells b (best better x l) (best-top x l u b h) p))
+
+    -- it is the only element than which none is better
+    pub best-only : (a : A) → List·Memᴰ a (x ∷ l) → ((b : A) → List·Memᴰ b (x ∷ l) → better b a ≡ false) → a ≡ best better x l
+    best-only a h n =
+        let m = best better x l in
+        u a m h (best-in better x l) (o .tells a m (best-top x l u a h) (n m (best-in better x l)))
+
+  -- the same for a list that may be empty
+  pub bestOf-only : (d a : A) (l : List A) → Unique key l → List·Memᴰ a l → ((b : A) → List·Memᴰ b l → better b a ≡ false) → bestOf better d l ≡ a
+  bestOf-only d a [] u h n = absurd (List·Memᴰ·not-nil h)
+  bestOf-only d a (x ∷ l) u h n = bestOf-cons better d x l ∙ sym (best-only x l u a h n)
+
+  module _ (d x : A) (l : List A) (u : Unique key (x ∷ l)) where
+    -- losers may go: a list of some of the elements, the best among them
+    pub best-fewer : (m : List A) → ((b : A) → List·Memᴰ b m → List·Memᴰ b (x ∷ l)) → List·Memᴰ (best better x l) m → bestOf better d m ≡ best better x l
+    best-fewer m f h = bestOf-only d (best better x l) m (unique-sub key f u) h (λ b k. best-top x l u b (f b k))
+
+    pub best-kept : (keep : A → Bool) → keep (best better x l) ≡ true → bestOf better d (kept keep (x ∷ l)) ≡ best better x l
+    best-kept keep k = best-fewer (kept keep (x ∷ l)) (λ b. mem-kept keep (x ∷ l)) (kept-mem keep k (best-in better x l))
+
+    -- in particular those of one key that is not the best's
+    pub best-without : (k : ℕ) → (key (best better x l) ≡ k → ⊥) → bestOf better d (kept (λ (a : A). not (eqb (key a) k)) (x ∷ l)) ≡ best better x l
+    best-without k n = best-kept (λ (a : A). not (eqb (key a) k)) (ap not (ne-eqb (key (best better x l)) k n))
+
+  -- the best does not depend on how the list is walked: only on what is in it
+  pub bestOf-same : (d : A) (l m : List A) → ((b : A) → List·Memᴰ b l → List·Memᴰ b m) → ((b : A) → List·Memᴰ b m → List·Memᴰ b l)
+      → Unique key l → bestOf better d l ≡ bestOf better d m
+  bestOf-same d [] [] f g u = refl
+  bestOf-same d [] (y ∷ m) f g u = absurd (List·Memᴰ·not-nil (g y (List·Memᴰ·head refl)))
+  bestOf-same d (x ∷ l) m f g u = bestOf-cons better d x l ∙ sym (best-fewer d x l u m g (f (best better x l) (best-in better x l)))
+
+  pub bestOf-perm : (d : A) {l m : List A} → List·Permᴰ l m → Unique key l → bestOf better d l ≡ bestOf better d m
+  bestOf-perm d {l} {m} p u = bestOf-same d l m (λ b. mem-perm p) (λ b. mem-perm (Permᴰ·symm p)) u
+
+  -- losers may come: elements that are all worse than the best
+  pub best-append : (x : A) (l m : List A) → Unique key (x ∷ l ++ m) → ((b : A) → List·Memᴰ b m → better (best better x l) b ≡ true)
+      → best better x (l ++ m) ≡ best better x l
+  best-append x l m u w =
+      sym (bestOf-cons better x x (l ++ m)) ∙ bestOf-only x (best better x l) (x ∷ l ++ m) u (Memᴰ·append-left m (best-in better x l)) none
+    where
+      none : (b : A) → List·Memᴰ b (x ∷ l ++ m) → better b (best better x l) ≡ false
+      none b h =
+          ⊎-elim (λ k. best-top x l (unique-sub key (λ a. Memᴰ·append-left m) u) b k)
+          (λ k. o .asym (best better x l) b (w b k)) (List·Memᴰ·append-cases (x ∷ l) h)

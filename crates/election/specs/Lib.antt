@@ -1,0 +1,2 @@
+pub mod Election
+pub mod Steps

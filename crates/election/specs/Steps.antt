@@ -1,0 +1,34 @@
+-- What the steps of the election promise to it. The promise of the election itself cites none of these.
+--   scoreOf a d e          == the number by which a candidate is preferred under the algorithm a (1 to 3) and the digest d
+--   beats a s r            == whether the score s is to be preferred to r: the lower one under 3, else the greater one
+--   bestPlace a d es ps    == of the places ps of the entries es, the first whose entry has the best score; 64 where there is none
+--   electedPlace ..        == the place that is elected among the places ps
+use Prim.Native.Nat.{ℕ, _+_, _*_, _%_}
+use mathlib.Core.Bool.{Bool, cond, not}
+use mathlib.Core.List.{List}
+use lib.ListN.{length, getD}
+use lib.Dec.{ltb, eqb}
+use Rattle.table.specs.declared.Entry.{Entry}
+use Rattle.table.specs.Table.{none}
+use Rattle.hrw.specs.Weight.{weightOf}
+use Rattle.choice.specs.Choice.{bestOf}
+
+-- preference and a bit behind it
+abbrev pub withBit : ℕ → Bool → ℕ
+withBit p b = p * 2 + cond b 1 0
+
+unfoldable pub scoreOf : ℕ → ℕ → Entry → ℕ
+scoreOf a d e =
+    cond (eqb a 1) (weightOf (e .address) d) (cond (eqb a 3) (withBit (e .preference) (not (e .dp))) (withBit (e .preference) (e .dp)))
+
+unfoldable pub beats : ℕ → ℕ → ℕ → Bool
+beats a s r = cond (eqb a 3) (ltb s r) (ltb r s)
+
+abbrev pub placeBeats : ℕ → ℕ → List Entry → ℕ → ℕ → Bool
+placeBeats a d es p q = beats a (scoreOf a d (getD es p none)) (scoreOf a d (getD es q none))
+
+unfoldable pub bestPlace : ℕ → ℕ → List Entry → List ℕ → ℕ
+bestPlace a d es ps = bestOf (placeBeats a d es) 64 ps
+
+unfoldable pub electedPlace : ℕ → ℕ → ℕ → List Entry → List ℕ → ℕ
+electedPlace a tag d es ps = cond (eqb a 0) (getD ps (tag % length ps) 64) (bestPlace a d es ps)

@@ -1,0 +1,207 @@
+-- Laws of sets that are made of flags, and of what they pick from a list.
+-- Assumes nothing.
+use Prim.Native.Nat.{ℕ, zero, suc, _+_, _-_, _*_, _/_, _%_, _^_, _≤_, _<_, min, max}
+use native.Mathlib.Nat.{le-of-suc-le-suc, not-suc-le-zero, le-refl, lt-of-lt-of-le, zero-add, max-zero, div-one, two-pow-succ}
+use native.Mathlib.Omega.{arith}
+use mathlib.Core.Path.{_≡_, refl, ap, ap₂, sym, _∙_}
+use mathlib.Core.Bool.{Bool, true, false, cond}
+use mathlib.Core.List.{List, [], _∷_, _++_, map, List·Memᴰ, List·Memᴰ·head, List·Memᴰ·tail, List·Memᴰ·not-nil}
+use lib.ListN.{length, getD, set, replicate, length-append, length-map, List·getD-map, List·getD-eq-default}
+use lib.Seq.{set-append-seam}
+use lib.Pow.{pow-pos, pow-mono, shr-shr}
+use lib.Bits.{bitOr, or-step, or-zero-r}
+use lib.Count.{ones}
+use borrow.Author.Tests.{lt-ltb, le-ltb}
+use Rattle.places.specs.Places.{placesFrom, places, setOf, picked, withPlace}
+use Rattle.places.proofs.Bits.{half-even, half-odd, low-even, low-odd, over, from-even, from-odd, from-zero, ones-even, ones-odd}
+use Rattle.places.proofs.Laws.{Rises, rises-weaken, rises-below, rises-at}
+
+-- the places of the true flags of bs, counted from i
+abbrev pub truesFrom : ℕ → List Bool → List ℕ
+truesFrom i [] = []
+truesFrom i (b ∷ bs) = cond b (i ∷ []) [] ++ truesFrom (suc i) bs
+
+setOf-none : setOf [] ≡ 0
+unfolding setOf
+setOf-none = refl
+
+setOf-false : (bs : List Bool) → setOf (false ∷ bs) ≡ 2 * setOf bs
+unfolding setOf
+setOf-false bs = omega arith
+
+setOf-true : (bs : List Bool) → setOf (true ∷ bs) ≡ 2 * setOf bs + 1
+unfolding setOf
+setOf-true bs = omega arith
+
+setOf-half : (b : Bool) (bs : List Bool) → setOf (b ∷ bs) / 2 ≡ setOf bs
+setOf-half false bs = rw (setOf-false bs) (half-even (setOf bs))
+setOf-half true bs = rw (setOf-true bs) (half-odd (setOf bs))
+
+setOf-low : (b : Bool) (bs : List Bool) → setOf (b ∷ bs) % 2 ≡ cond b 1 0
+setOf-low false bs = rw (setOf-false bs) (low-even (setOf bs))
+setOf-low true bs = rw (setOf-true bs) (low-odd (setOf bs))
+
+pub setOf-lt : (bs : List Bool) → setOf bs < 2 ^ length bs
+setOf-lt [] = rw setOf-none (omega arith)
+setOf-lt (false ∷ bs) = rw (setOf-false bs) (omega (arith, setOf-lt bs, two-pow-succ (length bs)))
+setOf-lt (true ∷ bs) = rw (setOf-true bs) (omega (arith, setOf-lt bs, two-pow-succ (length bs)))
+
+pub setOf-fits : (bs : List Bool) → length bs ≤ 64 → setOf bs < 2 ^ 64
+setOf-fits bs h = lt-of-lt-of-le (setOf-lt bs) (pow-mono h)
+
+-- its places are those of the true flags
+from-setOf : (n i : ℕ) (bs : List Bool) → length bs ≤ n → placesFrom n i (setOf bs) ≡ truesFrom i bs
+from-setOf n i [] h = rw setOf-none (from-zero n i)
+from-setOf zero i (b ∷ bs) h = absurd (not-suc-le-zero h)
+from-setOf (suc n) i (false ∷ bs) h = rw (setOf-false bs, from-even n i (setOf bs)) (from-setOf n (suc i) bs (le-of-suc-le-suc h))
+from-setOf (suc n) i (true ∷ bs) h = rw (setOf-true bs, from-odd n i (setOf bs)) (ap (i ∷_) (from-setOf n (suc i) bs (le-of-suc-le-suc h)))
+
+pub places-setOf : (bs : List Bool) → length bs ≤ 64 → places (setOf bs) ≡ truesFrom 0 bs
+unfolding places
+places-setOf bs h = from-setOf 64 0 bs h
+
+-- they rise, below the number of flags
+trues-rise : (i : ℕ) (bs : List Bool) → Rises i (i + length bs) (truesFrom i bs)
+trues-rise i [] = tt
+trues-rise i (false ∷ bs) = rw (over i (length bs)) (rises-weaken i (suc i + length bs) (truesFrom (suc i) bs) (trues-rise (suc i) bs))
+trues-rise i (true ∷ bs) = rw (over i (length bs)) (le-refl i, omega arith, trues-rise (suc i) bs)
+
+pub places-setOf-rise : (bs : List Bool) → length bs ≤ 64 → Rises 0 (length bs) (places (setOf bs))
+places-setOf-rise bs h = rw (places-setOf bs h) (rw zero-add at (trues-rise 0 bs))
+
+half-shift : (s i : ℕ) → s / 2 ^ suc i ≡ s / 2 / 2 ^ i
+half-shift s i = let h : suc i ≡ 1 + i = omega arith in ap (λ (k : ℕ). s / 2 ^ k) h ∙ sym (shr-shr s 1 i)
+
+-- bit i is one exactly if the i-th flag is true
+pub bit-setOf : (bs : List Bool) (i : ℕ) → setOf bs / 2 ^ i % 2 ≡ cond (getD bs i false) 1 0
+bit-setOf [] zero = rw setOf-none
+bit-setOf [] (suc i) = rw (setOf-none, half-shift 0 i) (rw setOf-none at (bit-setOf [] i))
+bit-setOf (b ∷ bs) zero = rw (div-one (setOf (b ∷ bs))) (setOf-low b bs)
+bit-setOf (b ∷ bs) (suc i) = rw (half-shift (setOf (b ∷ bs)) i, setOf-half b bs) (bit-setOf bs i)
+
+-- flags that are all alike
+pub setOf-falses : (n : ℕ) → setOf (replicate n false) ≡ 0
+setOf-falses zero = setOf-none
+setOf-falses (suc n) = rw (setOf-false (replicate n false), setOf-falses n)
+
+pub setOf-trues : (n : ℕ) → setOf (replicate n true) ≡ 2 ^ n - 1
+setOf-trues zero = setOf-none
+setOf-trues (suc n) = rw (setOf-true (replicate n true), setOf-trues n) (omega (arith, pow-pos n))
+
+-- the places below n, m of them: no more than 64
+pub setOf-below : (n m : ℕ) → min n 64 ≡ m → setOf (replicate (min n 64) true) ≡ 2 ^ m - 1
+setOf-below n m e = setOf-trues (min n 64) ∙ ap (λ (k : ℕ). 2 ^ k - 1) e
+
+max-one : (b : Bool) → max (cond b 1 0) 1 ≡ 1
+max-one false = refl
+max-one true = refl
+
+-- a flag that is set
+pub setOf-set : (bs : List Bool) (i : ℕ) → i < length bs → bitOr (setOf bs) (2 ^ i) ≡ setOf (set bs i true)
+unfolding setOf
+setOf-set [] i h = absurd (not-suc-le-zero h)
+setOf-set (b ∷ bs) zero h =
+    rw (or-step (setOf (b ∷ bs)) 1, setOf-half b bs, setOf-low b bs, or-zero-r (setOf bs), max-one b, setOf-true bs) (omega arith)
+setOf-set (b ∷ bs) (suc i) h =
+    let e : 2 ^ suc i / 2 ≡ 2 ^ i = omega arith in
+    let o : 2 ^ suc i % 2 ≡ 0 = omega arith in
+    rw (or-step (setOf (b ∷ bs)) (2 ^ suc i), e, o, setOf-half b bs, setOf-low b bs, setOf-set bs i (le-of-suc-le-suc h), max-zero (cond b 1 0)) (omega arith)
+
+module _ (s i : ℕ) where
+  pub withPlace-in : i < 64 → withPlace s i ≡ bitOr s (2 ^ i)
+  unfolding withPlace
+  withPlace-in h = simp (lt-ltb i 64 h)
+
+  pub withPlace-out : 64 ≤ i → withPlace s i ≡ s
+  unfolding withPlace
+  withPlace-out h = simp (le-ltb i 64 h)
+
+pub withPlace-set : (bs : List Bool) (i : ℕ) → i < length bs → length bs ≤ 64 → withPlace (setOf bs) i ≡ setOf (set bs i true)
+withPlace-set bs i h k = withPlace-in (setOf bs) i (omega arith) ∙ setOf-set bs i h
+
+-- a flag more: a false one changes nothing, a true one is the next place
+pub setOf-last : (bs : List Bool) → setOf (bs ++ false ∷ []) ≡ setOf bs
+unfolding setOf
+setOf-last [] = refl
+setOf-last (b ∷ bs) = ap (λ (s : ℕ). cond b 1 0 + 2 * s) (setOf-last bs)
+
+pub withPlace-last : (bs : List Bool) → length bs < 64 → withPlace (setOf bs) (length bs) ≡ setOf (bs ++ true ∷ [])
+withPlace-last bs h =
+    ap (λ (s : ℕ). withPlace s (length bs)) (sym (setOf-last bs))
+    ∙ withPlace-set (bs ++ false ∷ []) (length bs) (simp length-append (omega arith)) (simp length-append (omega arith))
+    ∙ ap setOf (set-append-seam bs false [] true)
+
+same-flag : (b c : Bool) → _≡_ {A = ℕ} (cond b 1 0) (cond c 1 0) → b ≡ c
+same-flag false false e = refl
+same-flag false true e = absurd (omega arith)
+same-flag true false e = absurd (omega arith)
+same-flag true true e = refl
+
+-- a set tells the flags that it is made of
+pub setOf-injective : (bs cs : List Bool) → length bs ≡ length cs → setOf bs ≡ setOf cs → bs ≡ cs
+setOf-injective [] [] h e = refl
+setOf-injective [] (c ∷ cs) h e = absurd (omega arith)
+setOf-injective (b ∷ bs) [] h e = absurd (omega arith)
+setOf-injective (b ∷ bs) (c ∷ cs) h e =
+    ap₂ _∷_ (same-flag b c (sym (setOf-low b bs) ∙ ap (λ (s : ℕ). s % 2) e ∙ setOf-low c cs))
+    (setOf-injective bs cs (omega arith) (sym (setOf-half b bs) ∙ ap (λ (s : ℕ). s / 2) e ∙ setOf-half c cs))
+
+-- ---- what a set picks from a list
+
+module _ {A : Type 0} where
+  map-truesFrom : (f : ℕ → A) (i : ℕ) (bs : List Bool) → map f (truesFrom (suc i) bs) ≡ map (λ (j : ℕ). f (suc j)) (truesFrom i bs)
+  map-truesFrom f i [] = refl
+  map-truesFrom f i (false ∷ bs) = map-truesFrom f (suc i) bs
+  map-truesFrom f i (true ∷ bs) = ap (f (suc i) ∷_) (map-truesFrom f (suc i) bs)
+
+  picked-trues : (bs : List Bool) (l : List A) (d : A) → length l ≡ length bs → map (λ (i : ℕ). getD l i d) (truesFrom 0 bs) ≡ picked bs l
+  unfolding picked
+  picked-trues [] l d h = refl
+  picked-trues (b ∷ bs) [] d h = absurd (omega arith)
+  picked-trues (false ∷ bs) (x ∷ l) d h = map-truesFrom (λ (i : ℕ). getD (x ∷ l) i d) 0 bs ∙ picked-trues bs l d (omega arith)
+  picked-trues (true ∷ bs) (x ∷ l) d h = ap (x ∷_) (map-truesFrom (λ (i : ℕ). getD (x ∷ l) i d) 0 bs ∙ picked-trues bs l d (omega arith))
+
+  pub length-picked : (bs : List Bool) (l : List A) → length l ≡ length bs → length (picked bs l) ≡ ones (setOf bs)
+  unfolding picked ones
+  length-picked [] l h = rw setOf-none
+  length-picked (b ∷ bs) [] h = absurd (omega arith)
+  length-picked (false ∷ bs) (x ∷ l) h = rw (setOf-false bs, ones-even (setOf bs)) (length-picked bs l (omega arith))
+  length-picked (true ∷ bs) (x ∷ l) h = rw (setOf-true bs, ones-odd (setOf bs)) (ap suc (length-picked bs l (omega arith)))
+
+  module _ (bs : List Bool) (l : List A) (d : A) (h : length l ≡ length bs) (k : length bs ≤ 64) where
+    -- the elements at the places of the set are those that the flags pick
+    pub picked-places : map (λ (i : ℕ). getD l i d) (places (setOf bs)) ≡ picked bs l
+    picked-places = rw (places-setOf bs k) (picked-trues bs l d h)
+
+    -- one by one, and none past the last
+    pub picked-at : (j : ℕ) → getD (picked bs l) j d ≡ getD l (getD (places (setOf bs)) j 64) d
+    picked-at j =
+        let f : ℕ → A = λ (i : ℕ). getD l i d in
+        let out : getD l 64 d ≡ d = List·getD-eq-default l d (omega arith) in
+        ap (λ (m : List A). getD m j d) (sym picked-places)
+        ∙ ap (λ (e : A). getD (map f (places (setOf bs))) j e) (sym out)
+        ∙ List·getD-map f (places (setOf bs)) j 64
+
+    -- what holds of any two elements of the list in their order holds of any two that are picked
+    pub picked-pairs : (R : A → A → Type 0) → ((i j : ℕ) → i < j → j < length l → R (getD l i d) (getD l j d))
+        → (i j : ℕ) → i < j → j < length (picked bs l) → R (getD (picked bs l) i d) (getD (picked bs l) j d)
+    picked-pairs R r i j g m =
+        let ps = places (setOf bs) in
+        let rise : Rises 0 (length bs) ps = places-setOf-rise bs k in
+        let short : j < length ps = omega (arith, ap length picked-places, length-map ps (λ (i : ℕ). getD l i d)) in
+        rw (picked-at i, picked-at j)
+        (r (getD ps i 64) (getD ps j 64) (rises-at 0 (length bs) ps i j 64 rise g short) (omega (arith, rises-below 0 (length bs) ps j 64 rise short)))
+
+  -- where every flag is true all is picked, and what is picked is always from the list
+  pub picked-all : (l : List A) → picked (replicate (length l) true) l ≡ l
+  unfolding picked
+  picked-all [] = refl
+  picked-all (x ∷ l) = ap (x ∷_) (picked-all l)
+
+  pub mem-picked : (bs : List Bool) (l : List A) {a : A} → List·Memᴰ a (picked bs l) → List·Memᴰ a l
+  unfolding picked
+  mem-picked [] l m = absurd (List·Memᴰ·not-nil m)
+  mem-picked (b ∷ bs) [] m = m
+  mem-picked (false ∷ bs) (x ∷ l) m = List·Memᴰ·tail (mem-picked bs l m)
+  mem-picked (true ∷ bs) (x ∷ l) (List·Memᴰ·head e) = List·Memᴰ·head e
+  mem-picked (true ∷ bs) (x ∷ l) (List·Memᴰ·tail m) = List·Memᴰ·tail (mem-picked bs l m)

@@ -1,0 +1,3 @@
+mod Bits
+pub mod Laws
+pub mod Flags

@@ -1,0 +1,31 @@
+-- Sets of places 0 to 63 as the bits of a number: place i is in the set s exactly if bit i of s is one (document 01, "The election": the 64-bit candidate
+-- set, and "List of forms by place": N counted by its ones, places found by trailing zeros).
+--   placesFrom n i s  == the places of the n lowest bits of s that are one, rising, the lowest bit counted as place i
+--   places s          == the places of the set s, rising
+--   setOf bs          == the set of the places whose flag is true: bit i is one exactly if the i-th flag of bs is true
+--   picked bs l       == the elements of l whose flag in bs is true, in their order
+--   withPlace s i     == the set s with the place i; s itself where i is no place, that is, 64 or more
+use Prim.Native.Nat.{ℕ, zero, suc, _+_, _*_, _/_, _%_, _^_}
+use mathlib.Core.Bool.{Bool, cond}
+use mathlib.Core.List.{List, [], _∷_, _++_}
+use lib.Dec.{ltb, eqb}
+use lib.Bits.{bitOr}
+
+unfoldable pub placesFrom : ℕ → ℕ → ℕ → List ℕ
+placesFrom zero i s = []
+placesFrom (suc n) i s = cond (eqb (s % 2) 1) (i ∷ []) [] ++ placesFrom n (suc i) (s / 2)
+
+unfoldable pub places : ℕ → List ℕ
+places s = placesFrom 64 0 s
+
+unfoldable pub setOf : List Bool → ℕ
+setOf [] = 0
+setOf (b ∷ bs) = cond b 1 0 + 2 * setOf bs
+
+unfoldable pub picked : {A : Type 0} → List Bool → List A → List A
+picked [] l = []
+picked (b ∷ bs) [] = []
+picked (b ∷ bs) (x ∷ l) = cond b (x ∷ []) [] ++ picked bs l
+
+unfoldable pub withPlace : ℕ → ℕ → ℕ
+withPlace s i = cond (ltb i 64) (bitOr s (2 ^ i)) s

@@ -1,0 +1,45 @@
+-- What a returning router advertises (document 01, "The returning router"; RFC 9785, section 4.3).
+--   others a l                 == the routes of l but that of the own address a
+--   allUnder g l               == whether all routes of l carry the algorithm g
+--   reaches g p q              == whether the own preference p is at least (under 3: at most) the reference's, q
+--   advertised g p d os        == the preference and DP that are sent, with the own algorithm g and the administrative pair p and d, beside the other routes os
+--   returningOf l a g p d      == the whole answer
+use Prim.Native.Nat.{ℕ}
+use mathlib.Core.Bool.{Bool, true, false, cond, not, _&&_, _||_}
+use mathlib.Core.List.{List, [], _∷_}
+use lib.ListN.{length}
+use lib.Dec.{leb, eqb}
+use Rattle.address.specs.Address.{addressKey, isZero}
+use Rattle.keyed.specs.Keyed.{remove}
+use Rattle.table.specs.declared.Entry.{Entry}
+use Rattle.table.specs.Table.{keyOf, none}
+use Rattle.choice.specs.Choice.{bestOf}
+use Rattle.election.specs.Election.{better}
+use Rattle.returning.specs.declared.Sent.{Sent}
+
+abbrev pub others : ℕ → List Entry → List Entry
+others a l = remove keyOf (addressKey a) l
+
+unfoldable pub allUnder : ℕ → List Entry → Bool
+allUnder g [] = true
+allUnder g (e ∷ l) = eqb (e .algorithm) g && allUnder g l
+
+unfoldable pub reaches : ℕ → ℕ → ℕ → Bool
+reaches g p q = cond (eqb g 3) (leb p q) (leb q p)
+
+abbrev pub sent : ℕ → ℕ → Bool → Sent
+sent n p d = record { number = n; preference = p; dp = d }
+
+-- the reference: the other route that wins by rule 2 (or 3). Its preference is sent, with DP clear, if its DP is set and the own preference reaches it
+unfoldable pub besideReference : ℕ → ℕ → Bool → Entry → Sent
+besideReference g p d e = cond (e .dp && reaches g p (e .preference)) (sent 0 (e .preference) false) (sent 0 p d)
+
+-- the administrative pair, if the own DP is clear, no other route stands, or any other route has a different algorithm
+unfoldable pub advertised : ℕ → ℕ → Bool → List Entry → Sent
+advertised g p d os =
+    cond (not d || (eqb (length os) 0 || not (allUnder g os))) (sent 0 p d) (besideReference g p d (bestOf (better g 0) none os))
+
+-- 15 for an algorithm that is not 2 or 3, then 6 for address zero
+unfoldable pub returningOf : List Entry → ℕ → ℕ → ℕ → Bool → Sent
+returningOf l a g p d =
+    cond (not (eqb g 2 || eqb g 3)) (sent 15 0 false) (cond (isZero a) (sent 6 0 false) (advertised g p d (others a l)))
