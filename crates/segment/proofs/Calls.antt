@@ -1,0 +1,175 @@
+-- One call of a segment, against the journal: the calls meet the rules of the general theorem on journals, and on the table of what is held a call
+-- answers and leaves what the journal says. Assumes nothing.
+use Prim.Native.Nat.{ℕ, _≤_, _<_}
+use native.Mathlib.Omega.{arith}
+use mathlib.Core.Path.{_≡_, refl, ap, ap₂, sym, _∙_, subst}
+use mathlib.Core.Bool.{Bool, true, false, cond, _||_}
+use mathlib.Core.List.{List, map}
+use lib.ListN.{length, replicate, length-map}
+use lib.Dec.{ltb, eqb}
+use borrow.Author.Tests.{ltb-true, lt-ltb, ne-eqb}
+use Rattle.octets.specs.Octets.{stored}
+use Rattle.address.specs.Address.{addressKey}
+use Rattle.esi.specs.Reserved.{reserved}
+use Rattle.route.specs.Route.{routeAddress}
+use Rattle.keyed.specs.Keyed.{has, insert, remove}
+use Rattle.keyed.specs.Journal.{hold, release, neither, journalNumber}
+use Rattle.keyed.proofs.Keyed.{map-has, map-insert, map-remove}
+use Rattle.keyed.proofs.Journal.{Rules, placed}
+use Rattle.table.specs.declared.Entry.{Entry}
+use Rattle.table.specs.declared.Table.{Table}
+use Rattle.table.specs.declared.Change.{Change}
+use Rattle.table.specs.Table.{keyOf, live, tableOf, WellFormed, announceNumber, withdrawNumber, freshTable, announced, withdrawn}
+use Rattle.table.proofs.Laws.{live-of}
+use Rattle.table.proofs.Calls.{Fresh, fresh-reserved, fresh-accepted, announced-kept, withdrawn-kept, passed-route, passed-esi, passed-list, passed-room}
+use Rattle.election.specs.declared.Answer.{Answer}
+use Rattle.election.specs.Election.{electOf}
+use Rattle.returning.specs.declared.Sent.{Sent}
+use Rattle.returning.specs.Returning.{returningOf}
+use Rattle.segment.specs.Calls.{Call, announce, withdraw, elect, returning, changed, elected, sent, numberIn, replyTo, leaves, Changes}
+use Rattle.segment.specs.Journal.{Announcement, originatorKey, again, entryFrom, callNumber, callEffect, numberFor}
+
+-- THE RULES: a new address is held only where there is room, and an announcement that was accepted once is accepted wherever there is room
+room-left : (b : Bool) (n : ℕ) → b ≡ false → (b || ltb n 64) ≡ true → n < 64
+room-left true n f h = let z : _≡_ {A = ℕ} 0 1 = cc in absurd (omega arith)
+room-left false n f h = ltb-true n 64 h
+
+or-true : (b : Bool) → (b || true) ≡ true
+or-true true = refl
+or-true false = refl
+
+accept-again : (i r c : List ℕ) (p q : Bool) (m n : ℕ) → announceNumber i r c p m ≡ 0 → n < 64 → announceNumber i r c q n ≡ 0
+unfolding announceNumber
+accept-again i r c p q m n h l =
+    rw (passed-route i r c p m h, passed-esi i r c p m h, passed-list i r c p m h, lt-ltb n 64 l, or-true q)
+
+-- only an announcement holds, and it holds itself
+not-released : {k : ℕ} {p : Announcement} → release k ≡ hold p → ⊥
+not-released e = let z : _≡_ {A = ℕ} 0 1 = cc in omega arith
+
+not-neither : {p : Announcement} → neither ≡ hold p → ⊥
+not-neither e = let z : _≡_ {A = ℕ} 0 1 = cc in omega arith
+
+by-announcement : (P : Call → Announcement → Type 0) → ((p : Announcement) → P (again p) p) → (c : Call) (p : Announcement) → callEffect c ≡ hold p → P c p
+unfolding callEffect
+by-announcement P f (announce r c) p e =
+    let own : record { route = r; communities = c } ≡ p = cc in
+    subst (P (announce r c)) own (f (record { route = r; communities = c }))
+by-announcement P f (withdraw a) p e = absurd (not-released e)
+by-announcement P f (elect tag ready) p e = absurd (not-neither e)
+by-announcement P f (returning a alg v d) p e = absurd (not-neither e)
+
+module _ (i : List ℕ) where
+  holds : (p : Announcement) → callEffect (again p) ≡ hold p
+  unfolding callEffect
+  holds p = refl
+
+  room : (p : Announcement) (present : ℕ → Bool) (n : ℕ) → callNumber i (again p) present n ≡ 0 → present (originatorKey p) ≡ false → n < 64
+  unfolding callNumber
+  room p present n q f =
+      let b : Bool = present (originatorKey p) in
+      room-left b n f (passed-room i (p .route) (p .communities) b n q)
+
+  repeats : (p : Announcement) (u v : ℕ → Bool) (m n : ℕ) → callNumber i (again p) u m ≡ 0 → n < 64 → callNumber i (again p) v n ≡ 0
+  unfolding callNumber
+  repeats p u v m n h l = accept-again i (p .route) (p .communities) (u (originatorKey p)) (v (originatorKey p)) m n h l
+
+  pub rules : Rules originatorKey (callNumber i) callEffect again 64
+  rules = record {
+    holds = holds;
+    room = λ c p present n e.
+        by-announcement (λ d q. callNumber i d present n ≡ 0 → present (originatorKey q) ≡ false → n < 64) (λ q. room q present n) c p e;
+    repeats = λ c p u v m n e.
+        by-announcement (λ d q. callNumber i d u m ≡ 0 → n < 64 → callNumber i (again q) v n ≡ 0) (λ q. repeats q u v m n) c p e;
+  }
+
+  -- THE TABLE OF ANNOUNCEMENTS that are listed in rising order
+  abbrev pub state : List Announcement → Table
+  state l = tableOf i (map entryFrom l)
+
+  module _ (l : List Announcement) (h : length l ≤ 64) where
+    pub live-state : live (state l) ≡ map entryFrom l
+    live-state = live-of i (map entryFrom l) (rw length-map h)
+
+    has-state : (k : ℕ) → has keyOf k (live (state l)) ≡ has originatorKey k l
+    has-state k = ap (has keyOf k) live-state ∙ map-has entryFrom originatorKey keyOf (λ x. refl) k l
+
+    length-state : length (live (state l)) ≡ length l
+    length-state = ap length live-state ∙ length-map l entryFrom
+
+    -- a call on it answers the number that the journal gives where l is held
+    pub announced-number : (r c : List ℕ) → announced (state l) r c .number ≡ numberFor i l (announce r c)
+    unfolding announced journalNumber callNumber
+    announced-number r c =
+        ap₂ (λ (p : Bool) (n : ℕ). announceNumber i r c p n) (has-state (addressKey (routeAddress r))) length-state
+
+    pub withdrawn-number : (a : ℕ) → withdrawn (state l) a .number ≡ numberFor i l (withdraw a)
+    unfolding withdrawn journalNumber callNumber
+    withdrawn-number a = ap (withdrawNumber a) (has-state (addressKey a))
+
+    -- and leaves the table of what is then held
+    chosen : (n m : ℕ) (es : List Entry) (js : List Announcement) → n ≡ m → es ≡ map entryFrom js
+        → cond (eqb n 0) (tableOf i es) (state l) ≡ state (cond (eqb m 0) js l)
+    chosen n m es js p q = rw (p, q) (go (eqb m 0))
+      where
+        go : (b : Bool) → cond b (state js) (state l) ≡ state (cond b js l)
+        go true = refl
+        go false = refl
+
+    pub call-state : (c : Call) → leaves (state l) c ≡ state (cond (eqb (numberFor i l c) 0) (placed originatorKey (callEffect c) l) l)
+    unfolding leaves announced withdrawn callEffect callNumber journalNumber placed
+    call-state (announce r c) =
+        let p : Announcement = record { route = r; communities = c } in
+        chosen (announced (state l) r c .number) (numberFor i l (announce r c)) (insert keyOf (entryFrom p) (live (state l))) (insert originatorKey p l)
+        (announced-number r c)
+        (ap (insert keyOf (entryFrom p)) live-state ∙ sym (map-insert entryFrom originatorKey keyOf (λ x. refl) p l))
+    call-state (withdraw a) =
+        let k : ℕ = addressKey a in
+        chosen (withdrawn (state l) a .number) (numberFor i l (withdraw a)) (remove keyOf k (live (state l))) (remove originatorKey k l)
+        (withdrawn-number a)
+        (ap (remove keyOf k) live-state ∙ sym (map-remove entryFrom originatorKey keyOf (λ x. refl) k l))
+    call-state (elect tag ready) = refl
+    call-state (returning a alg p d) = refl
+
+-- CALLS ON ANY TABLE
+pub refused-leaves : (t : Table) (c : Call) → (numberIn (replyTo t c) ≡ 0 → ⊥) → leaves t c ≡ t
+unfolding numberIn replyTo leaves announced withdrawn
+refused-leaves t (announce r c) n = rw (ne-eqb (announced t r c .number) 0 n)
+refused-leaves t (withdraw a) n = rw (ne-eqb (withdrawn t a .number) 0 n)
+refused-leaves t (elect tag ready) n = refl
+refused-leaves t (returning a alg p d) n = refl
+
+pub call-kept : (t : Table) (c : Call) → WellFormed t → WellFormed (leaves t c)
+unfolding leaves
+call-kept t (announce r c) w = announced-kept t w r c
+call-kept t (withdraw a) w = withdrawn-kept t w a
+call-kept t (elect tag ready) w = w
+call-kept t (returning a alg p d) w = w
+
+pub fresh-kept : (i : List ℕ) → WellFormed (freshTable i .table)
+fresh-kept i = go (reserved i) refl
+  where
+    from : (x : Change) → Fresh i x → WellFormed (freshTable i .table)
+    from x f = subst (λ (y : Change). WellFormed (y .table)) (f .0) (f .1)
+
+    go : (b : Bool) → reserved i ≡ b → WellFormed (freshTable i .table)
+    go true h = from _ (fresh-reserved i h)
+    go false h = from _ (fresh-accepted i (stored (replicate 10 0) 0 i) h refl)
+
+-- what the code answers is the list's call
+pub announce-changes : (t : Table) (r c : List ℕ) {x : Change} → x ≡ announced t r c → Changes t (announce r c) x
+unfolding replyTo leaves
+announce-changes t r c q = (ap (λ (y : Change). changed (y .number)) (sym q), ap (λ (y : Change). y .table) (sym q))
+
+pub withdraw-changes : (t : Table) (a : ℕ) {x : Change} → x ≡ withdrawn t a → Changes t (withdraw a) x
+unfolding replyTo leaves
+withdraw-changes t a q = (ap (λ (y : Change). changed (y .number)) (sym q), ap (λ (y : Change). y .table) (sym q))
+
+-- what the code answers to an election and to a returning router is the list's reply
+pub elect-replies : (t : Table) (tag : ℕ) (ready : List ℕ) {r : Answer} → r ≡ electOf (t .esi) (live t) tag ready → replyTo t (elect tag ready) ≡ elected r
+unfolding replyTo
+elect-replies t tag ready e = ap elected (sym e)
+
+pub returning-replies : (t : Table) (a alg p : ℕ) (d : Bool) {r : Sent} → r ≡ returningOf (live t) a alg p d → replyTo t (returning a alg p d) ≡ sent r
+unfolding replyTo
+returning-replies t a alg p d e = ap sent (sym e)

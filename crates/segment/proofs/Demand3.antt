@@ -1,0 +1,171 @@
+-- Demand 3 holds of every identifier and every list of calls: the general theorem on journals, at a segment's calls and a capacity of 64.
+-- Assumes nothing.
+use Prim.Native.Nat.{ℕ, zero, suc, _≤_}
+use mathlib.Core.Path.{_≡_, refl, ap, sym, _∙_, subst}
+use mathlib.Core.Bool.{Bool, true, false, cond}
+use mathlib.Core.List.{List, [], _∷_, map, List·Permᴰ, List·Permᴰ·trans, Permᴰ·symm, Permᴰ·map}
+use mathlib.Core.Option.{Option, none}
+use lib.ListN.{length, replicate}
+use lib.Dec.{eqb}
+use Rattle.keyed.specs.Keyed.{Rising, insert, arranged}
+use Rattle.keyed.specs.Journal.{after, answers, heldAt, heard, lastHeld}
+use Rattle.keyed.proofs.Keyed.{map-insert}
+use Rattle.keyed.proofs.Order.{perm-length, perm-arranged, rising-arranged-all, rising-unique}
+use Rattle.keyed.proofs.Journal as journal
+use Rattle.table.specs.declared.Entry.{Entry}
+use Rattle.table.specs.declared.Table.{Table}
+use Rattle.table.specs.Table.{keyOf, live, WellFormed, ownerOf, freshTable}
+use Rattle.election.specs.Election.{electOf}
+use Rattle.returning.specs.Returning.{returningOf}
+use Rattle.segment.specs.Calls.{Call, announce, withdraw, elect, returning, Reply, changed, elected, sent, numberIn, replyTo, leaves}
+use Rattle.segment.specs.Journal.{Announcement, originatorKey, again, entryFrom, entriesFrom, callNumber, callEffect, numberFor, step, journalReply, held}
+use Rattle.segment.specs.Demand3.{replies, tableAfter, Demand3}
+use Rattle.segment.proofs.Calls.{rules, state, live-state, announced-number, withdrawn-number, call-state, refused-leaves, call-kept, fresh-kept}
+
+-- THE ENTRIES of what is held, in order
+entries-arranged : (js : List Announcement) → entriesFrom js ≡ arranged keyOf (map entryFrom js)
+unfolding arranged
+entries-arranged [] = refl
+entries-arranged (p ∷ js) =
+    map-insert entryFrom originatorKey keyOf (λ x. refl) p (arranged originatorKey js) ∙ ap (insert keyOf (entryFrom p)) (entries-arranged js)
+
+rising-entries : (js : List Announcement) → Rising keyOf 0 (entriesFrom js)
+rising-entries js = rw (entries-arranged js) (rising-arranged-all keyOf (map entryFrom js))
+
+-- NUMBERS AND REPLIES
+unheard : (m n : ℕ) (o : Option Announcement) → cond (eqb m 0) o o ≡ cond (eqb n 0) o o
+unheard m n o = go (eqb m 0) (eqb n 0)
+  where
+    go : (a b : Bool) → cond a o o ≡ cond b o o
+    go true true = refl
+    go true false = refl
+    go false true = refl
+    go false false = refl
+
+map-replicate : {A B : Type 0} (f : A → B) (x : A) (n : ℕ) → map f (replicate n x) ≡ replicate n (f x)
+map-replicate f x zero = refl
+map-replicate {B = B} f x (suc n) = ap (λ (l : List B). f x ∷ l) (map-replicate f x n)
+
+-- i is the journal's identifier
+module _ (i : List ℕ) where
+  -- the number of an election or of a call for a returning router changes nothing that is held
+  module _ (k : ℕ) where
+    same-heard : (o : Option Announcement) (js : List Announcement) (c : Call)
+        → cond (eqb (numberFor i js c) 0) (heard originatorKey k (callEffect c) o) o
+        ≡ cond (eqb (numberIn (journalReply i js c)) 0) (heard originatorKey k (callEffect c) o) o
+    unfolding numberIn journalReply callEffect heard
+    same-heard o js (announce r c) = refl
+    same-heard o js (withdraw a) = refl
+    same-heard o js (elect tag ready) = unheard (numberFor i js (elect tag ready)) (electOf i (entriesFrom js) tag ready .number) o
+    same-heard o js (returning a alg p d) = unheard (numberFor i js (returning a alg p d)) (returningOf (entriesFrom js) a alg p d .number) o
+
+    same-last : (o : Option Announcement) (js : List Announcement) (cs : List Call)
+        → lastHeld originatorKey callEffect k o cs (answers (numberFor i) (step i) js cs)
+        ≡ lastHeld originatorKey callEffect k o cs (map numberIn (answers (journalReply i) (step i) js cs))
+    unfolding lastHeld answers
+    same-last o js [] = refl
+    same-last o js (c ∷ cs) = rw (same-heard o js c) (same-last _ (step i js c) cs)
+
+  -- announcements alone are answered their numbers
+  only-numbers : (js order : List Announcement)
+      → answers (journalReply i) (step i) js (map again order) ≡ map changed (answers (numberFor i) (step i) js (map again order))
+  unfolding answers journalReply
+  only-numbers js [] = refl
+  only-numbers js (p ∷ order) = ap (λ (l : List Reply). changed (numberFor i js (again p)) ∷ l) (only-numbers (step i js (again p)) order)
+
+  -- A KEPT JOURNAL: the table of what it holds gives its replies, and its entries are in the only rising order
+  abbrev Kept : List Announcement → Type 0
+  Kept = journal.Kept originatorKey (callNumber i) callEffect again 64
+
+  module _ (js : List Announcement) (k : Kept js) where
+    short : length (arranged originatorKey js) ≤ 64
+    short = subst (λ (n : ℕ). n ≤ 64) (sym (perm-length (perm-arranged originatorKey js (k .distinct)))) (k .fits)
+
+    live-held : live (state i (arranged originatorKey js)) ≡ entriesFrom js
+    live-held = live-state i (arranged originatorKey js) short
+
+    number-held : (c : Call) → numberFor i (arranged originatorKey js) c ≡ numberFor i js c
+    number-held c = journal.number-arranged originatorKey (callNumber i) callEffect again 64 js c (k .distinct)
+
+    agree : (c : Call) → replyTo (state i (arranged originatorKey js)) c ≡ journalReply i js c
+    unfolding replyTo journalReply
+    agree (announce r c) = ap changed (announced-number i (arranged originatorKey js) short r c ∙ number-held (announce r c))
+    agree (withdraw a) = ap changed (withdrawn-number i (arranged originatorKey js) short a ∙ number-held (withdraw a))
+    agree (elect tag ready) = ap (λ (l : List Entry). elected (electOf i l tag ready)) live-held
+    agree (returning a alg p d) = ap (λ (l : List Entry). sent (returningOf l a alg p d)) live-held
+
+    all-entries : List·Permᴰ (entriesFrom js) (map entryFrom js)
+    all-entries = Permᴰ·map entryFrom (perm-arranged originatorKey js (k .distinct))
+
+    only-entries : (l : List Entry) → Rising keyOf 0 l → List·Permᴰ l (map entryFrom js) → l ≡ entriesFrom js
+    only-entries l r h = rising-unique keyOf l (entriesFrom js) 0 0 r (rising-entries js) (List·Permᴰ·trans h (Permᴰ·symm all-entries))
+
+  -- FROM THE TABLE OF NOTHING HELD
+  one : (l : List Announcement) (c : Call) → length l ≤ 64
+      → leaves (state i l) c ≡ state i (cond (eqb (numberFor i l c) 0) (journal.placed originatorKey (callEffect c) l) l)
+  one l c h = call-state i l h c
+
+  kept-none : Kept []
+  kept-none = journal.kept-none originatorKey (callNumber i) callEffect again 64
+
+  kept : (cs : List Call) → Kept (after (step i) [] cs)
+  kept cs = journal.kept-after originatorKey (callNumber i) callEffect again 64 (rules i) [] cs kept-none
+
+  ends : (cs : List Call) → after leaves (state i []) cs ≡ state i (arranged originatorKey (after (step i) [] cs))
+  ends = journal.from-none originatorKey (callNumber i) callEffect again 64 (rules i) (state i) leaves one
+
+  tells : (cs : List Call) → answers replyTo leaves (state i []) cs ≡ answers (journalReply i) (step i) [] cs
+  unfolding arranged
+  tells cs =
+      journal.answers-follow originatorKey (callNumber i) callEffect again 64 (rules i) (state i) leaves one
+      replyTo (journalReply i) (λ js c k. agree js k c) [] cs kept-none
+
+  replied : (cs : List Call) (c : Call) → replyTo (after leaves (state i []) cs) c ≡ journalReply i (after (step i) [] cs) c
+  replied cs c = ap (λ (t : Table). replyTo t c) (ends cs) ∙ agree (after (step i) [] cs) (kept cs) c
+
+  -- the last accepted announcement of an address
+  last-held : (cs : List Call) (k : ℕ)
+      → heldAt originatorKey k (after (step i) [] cs) ≡ lastHeld originatorKey callEffect k none cs (map numberIn (answers replyTo leaves (state i []) cs))
+  unfolding heldAt
+  last-held cs k =
+      journal.held-last originatorKey (callNumber i) callEffect again 64 (rules i) k [] cs kept-none
+      ∙ same-last k none [] cs
+      ∙ ap (λ (l : List Reply). lastHeld originatorKey callEffect k none cs (map numberIn l)) (sym (tells cs))
+
+  -- what is held, announced alone in any order
+  module _ (cs : List Call) (order : List Announcement) (h : List·Permᴰ order (after (step i) [] cs)) where
+    again-accepted : answers replyTo leaves (state i []) (map again order) ≡ replicate (length order) (changed 0)
+    again-accepted =
+        tells (map again order)
+        ∙ only-numbers [] order
+        ∙ ap (map changed) (journal.again-all originatorKey (callNumber i) callEffect again 64 (rules i) (after (step i) [] cs) order (kept cs) h .1)
+        ∙ map-replicate changed 0 (length order)
+
+    again-state : after leaves (state i []) (map again order) ≡ after leaves (state i []) cs
+    again-state = journal.same-state originatorKey (callNumber i) callEffect again 64 (rules i) (state i) leaves one cs order h
+
+calls-kept : (t : Table) (cs : List Call) → WellFormed t → WellFormed (after leaves t cs)
+unfolding after
+calls-kept t [] w = w
+calls-kept t (c ∷ cs) w = calls-kept (leaves t c) cs (call-kept t c w)
+
+-- THE WHOLE: the fresh table is the one of nothing held
+pub demand3 : (i : List ℕ) (cs : List Call) → Demand3 i cs
+unfolding freshTable leaves journalReply
+demand3 i cs = record {
+  told = tells (ownerOf i) cs;
+  elections = λ tag ready. refl;
+  returnings = λ a alg p d. refl;
+  refusals = refused-leaves (tableAfter i cs);
+  last = last-held (ownerOf i) cs;
+  sound = calls-kept (freshTable i .table) cs (fresh-kept i);
+  accepted = again-accepted (ownerOf i) cs;
+  state = again-state (ownerOf i) cs;
+  rising = rising-entries (held i cs);
+  all = all-entries (ownerOf i) (held i cs) (kept (ownerOf i) cs);
+  only = only-entries (ownerOf i) (held i cs) (kept (ownerOf i) cs);
+  answer = λ tag ready. replied (ownerOf i) cs (elect tag ready);
+  answerAgain = λ order h tag ready.
+      ap (λ (t : Table). replyTo t (elect tag ready)) (again-state (ownerOf i) cs order h) ∙ replied (ownerOf i) cs (elect tag ready);
+  preference = λ a alg p d. replied (ownerOf i) cs (returning a alg p d);
+}

@@ -1,0 +1,17 @@
+-- The starred values of document 01 hold, all of them, by computation. Assumes nothing.
+use mathlib.Core.Path.{_≡_, refl}
+use mathlib.Core.Bool.{true}
+use Rattle.octets.specs.Octets.{numberOf, octetsOf, sameOctets}
+use Rattle.address.specs.Address.{addressKey, isZero}
+use Rattle.keyed.specs.Keyed.{remove}
+use Rattle.community.specs.Community.{electionUnder, communityOctets, readCommunity}
+use Rattle.places.specs.Places.{setOf, picked}
+use Rattle.choice.specs.Choice.{best, bestOf}
+use Rattle.hrw.specs.Weight.{weightOf}
+use Rattle.election.specs.Election.{allCarry, inUse, onList, eligible, candidates, candidateSet, better, elected, reservedTag, answerOf, electOf}
+use Rattle.returning.specs.Returning.{allUnder, reaches, besideReference, advertised, returningOf}
+use Rattle.segment.specs.Values.{starred, allRight}
+
+pub starred-right : allRight starred ≡ true
+unfolding allRight numberOf octetsOf sameOctets addressKey isZero remove electionUnder communityOctets readCommunity setOf picked best bestOf weightOf allCarry inUse onList eligible candidates candidateSet better elected reservedTag answerOf electOf allUnder reaches besideReference advertised returningOf
+starred-right = refl

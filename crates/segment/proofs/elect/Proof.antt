@@ -1,0 +1,18 @@
+-- `elect` meets its contract: the election's own promises, and that it is the list's reply. Assumes nothing.
+use borrow.Author.Needs.{needs}
+use denote.Ref.{now}
+use Rattle.segment.proofs.Calls.{elect-replies}
+use Rattle.segment.proofs.elect.Statement.{statement}
+use Rattle.segment.proofs.elect.Tie as tie
+
+elect-requires : tie.Need-elect-requires
+elect-requires c κs = search needs
+
+returns : tie.Need-returns
+returns c =
+    let told = c .elect .ensures in
+    let args = c .before .before .args in
+    (told .0, (told .1 .0, (told .1 .1, elect-replies (args .t) (args .tag) (now (args .ready)) (told .0))))
+
+pub elect-spec : {M : Type 1} → statement M
+elect-spec = tie.close (tie.spec elect-requires returns)

@@ -1,0 +1,52 @@
+-- The calls of a list of calls, with their arguments besides the table (document 01, "A whole night of calls").
+--   announce r c          == the announcement of the route octets r with the communities c
+--   withdraw a            == the withdrawal of the address a
+--   elect tag ready       == the election for the tag, with the addresses of the ready list
+--   returning a alg p d   == the call for a returning router of the address a and the algorithm alg, with its administrative preference p and DP bit d
+--   replyTo t c           == what the call c answers, on the table t: of an announcement or a withdrawal its number, of the others the whole answer
+--   numberIn r            == the number of the reply r: 0, or a refusal
+--   leaves t c            == the table after the call c on the table t; an election and a call for a returning router hand none back
+--   Changes t c r         == r is what the call c, an announcement or a withdrawal, answers and leaves on the table t
+use Prim.Native.Nat.{ℕ}
+use mathlib.Core.Path.{_≡_}
+use mathlib.Core.Bool.{Bool}
+use mathlib.Core.List.{List}
+use Rattle.table.specs.declared.Table.{Table}
+use Rattle.table.specs.declared.Change.{Change}
+use Rattle.table.specs.Table.{live, announced, withdrawn}
+use Rattle.election.specs.declared.Answer.{Answer}
+use Rattle.election.specs.Election.{electOf}
+use Rattle.returning.specs.declared.Sent.{Sent}
+use Rattle.returning.specs.Returning.{returningOf}
+
+pub data Call : Type 0 where
+  announce : List ℕ → List ℕ → Call
+  withdraw : ℕ → Call
+  elect : ℕ → List ℕ → Call
+  returning : ℕ → ℕ → ℕ → Bool → Call
+
+pub data Reply : Type 0 where
+  changed : ℕ → Reply
+  elected : Answer → Reply
+  sent : Sent → Reply
+
+unfoldable pub numberIn : Reply → ℕ
+numberIn (changed n) = n
+numberIn (elected a) = a .number
+numberIn (sent s) = s .number
+
+unfoldable pub replyTo : Table → Call → Reply
+replyTo t (announce r c) = changed (announced t r c .number)
+replyTo t (withdraw a) = changed (withdrawn t a .number)
+replyTo t (elect tag ready) = elected (electOf (t .esi) (live t) tag ready)
+replyTo t (returning a alg p d) = sent (returningOf (live t) a alg p d)
+
+unfoldable pub leaves : Table → Call → Table
+leaves t (announce r c) = announced t r c .table
+leaves t (withdraw a) = withdrawn t a .table
+leaves t (elect tag ready) = t
+leaves t (returning a alg p d) = t
+
+-- ties the code's answers to the list's calls
+abbrev pub Changes : Table → Call → Change → Type 0
+Changes t c r = (replyTo t c ≡ changed (r .number)) × (leaves t c ≡ r .table)
