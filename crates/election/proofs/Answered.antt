@@ -1,5 +1,5 @@
 -- The whole answer of an election, from the set of the candidates' places. Assumes nothing.
-use Prim.Native.Nat.{ℕ, zero, suc, _%_, _≤_, _<_, _^_, min}
+use Prim.Native.Nat.{ℕ, suc, _/_, _%_, _≤_, _<_, _^_, min}
 use native.Mathlib.Omega.{arith}
 use native.Mathlib.Nat.{mod-lt}
 use mathlib.Core.Path.{_≡_, refl, ap, ap₂, _∙_, sym, subst}
@@ -15,7 +15,7 @@ use Rattle.table.specs.Table.{keyOf, none, live, WellFormed}
 use Rattle.table.proofs.Laws.{length-live, length-entries, at-live}
 use Rattle.places.specs.Places.{places, setOf, picked}
 use Rattle.places.proofs.Laws.{Rises, places-none, places-empty, length-places, place-lt}
-use Rattle.places.proofs.Flags.{setOf-fits, places-setOf-rise, picked-places}
+use Rattle.places.proofs.Flags.{setOf-fits, bit-setOf, places-setOf-rise, picked-places, length-picked}
 use Rattle.choice.proofs.Laws.{best-at}
 use Rattle.choice.specs.Choice.{best, bestOf}
 use Rattle.hrw.specs.Weight.{digestOf}
@@ -46,6 +46,15 @@ set-all ready l n e h =
 pub set-by-bit : (u : InUse) (ready : List ℕ) (l : List Entry) → candidateSet (record { algorithm = 0; «ac_df» = u .«ac_df» }) ready l ≡ candidateSet u ready l
 unfolding candidateSet eligible
 set-by-bit u ready l = refl
+
+-- bit i is one exactly if the entry at place i is eligible, and the ones are as many as the candidates
+pub candidate-bit : (u : InUse) (ready : List ℕ) (l : List Entry) (i : ℕ) → candidateSet u ready l / 2 ^ i % 2 ≡ cond (getD (map (eligible u ready) l) i false) 1 0
+unfolding candidateSet
+candidate-bit u ready l i = bit-setOf (map (eligible u ready) l) i
+
+pub candidate-ones : (u : InUse) (ready : List ℕ) (l : List Entry) → length (candidates u ready l) ≡ ones (candidateSet u ready l)
+unfolding candidates candidateSet
+candidate-ones u ready l = length-picked (map (eligible u ready) l) l (sym (length-map l (eligible u ready)))
 
 -- a place among those that rise below b
 place-below : (a b : ℕ) (ps : List ℕ) (f g : ℕ → Entry) → Rises a b ps → ((i : ℕ) → i < b → f i ≡ g i) → map f ps ≡ map g ps
