@@ -2,7 +2,10 @@
 use borrow.Author.Needs.{needs}
 use Prim.Native.Nat.{_<_}
 use native.Mathlib.Omega.{arith}
+use mathlib.Core.Path.{_≡_}
+use mathlib.Core.Bool.{false}
 use denote.Ref.{now}
+use Rattle.election.specs.Election.{reservedTag}
 use Rattle.election.proofs.Answered.{promised, elects-10, elects-11, tag-zero, tag-last, tag-right, no-candidate, candidates-there, place-there, forwarder}
 use Rattle.election.proofs.elect.Statement.{statement}
 use Rattle.election.proofs.elect.Tie as tie
@@ -43,16 +46,20 @@ candidate-set-requires c κs = search needs
 refusal-requires-4 : tie.Need-refusal-requires-4
 refusal-requires-4 c κs = search needs
 
+-- what is known where the checks are passed
+abbrev from : tie.Else3 → tie.Start
+from c = c .before .before .before .before
+
+right : (c : tie.Else3) → reservedTag (from c .args .tag) ≡ false
+right c = tag-right (from c .args .tag) (c .before .before .if1 .left) (c .before .if2 .left)
+
 returns-4 : tie.Need-returns-4
 returns-4 c =
     let set = c .before .before in
     let used = set .before in
-    let third = used .before in
-    let second = third .before in
-    let first = second .before in
-    let start = first .before .before in
+    let past = used .before in
     rw (c .refusal4 .ensures)
-    (promised (start .args .t1) (start .pre) _ _ (no-candidate (start .args .t1) (start .pre) _ _ (tag-right _ (first .if1 .left) (second .if2 .left)) (third .if3 .left) _ _ (used .in-use .ensures) (set .candidate-set .ensures) (c .before .if4 .taken)))
+    (promised (from past .args .t1) (from past .pre) _ _ (no-candidate (from past .args .t1) (from past .pre) _ _ (right past) (past .if3 .left) _ _ (used .in-use .ensures) (set .candidate-set .ensures) (c .before .if4 .taken)))
 
 count-requires : tie.Need-count-requires
 count-requires c κs = search needs
@@ -62,12 +69,9 @@ elected-place-requires c κs =
     let tested = c .before in
     let set = tested .before in
     let used = set .before in
-    let third = used .before in
-    let second = third .before in
-    let first = second .before in
-    let start = first .before .before in
-    let there = candidates-there (start .args .t1) (start .pre) _ _ (tag-right _ (first .if1 .left) (second .if2 .left)) (third .if3 .left) _ _ (used .in-use .ensures) (set .candidate-set .ensures) (tested .if4 .left) in
-    (start .pre, c .count .ensures .0, omega (arith, c .count .ensures .0, there))
+    let past = used .before in
+    let there = candidates-there (from past .args .t1) (from past .pre) _ _ (right past) (past .if3 .left) _ _ (used .in-use .ensures) (set .candidate-set .ensures) (tested .if4 .left) in
+    (from past .pre, c .count .ensures .0, omega (arith, c .count .ensures .0, there))
 
 place-below : (c : tie.After-elected-place) → c .elected-place .result < 64
 place-below c =
@@ -75,11 +79,8 @@ place-below c =
     let tested = counted .before in
     let set = tested .before in
     let used = set .before in
-    let third = used .before in
-    let second = third .before in
-    let first = second .before in
-    let start = first .before .before in
-    place-there (start .args .t1) (start .pre) (start .args .tag) (now (start .args .ready)) (tag-right _ (first .if1 .left) (second .if2 .left)) (third .if3 .left)
+    let past = used .before in
+    place-there (from past .args .t1) (from past .pre) (from past .args .tag) (now (from past .args .ready)) (right past) (past .if3 .left)
     _ _ (used .in-use .ensures) (set .candidate-set .ensures) (tested .if4 .left) (c .elected-place .result) (c .elected-place .ensures)
 
 mul-e : tie.Need-mul-e
@@ -94,12 +95,9 @@ returns-5 c =
     let tested = counted .before in
     let set = tested .before in
     let used = set .before in
-    let third = used .before in
-    let second = third .before in
-    let first = second .before in
-    let start = first .before .before in
-    promised (start .args .t1) (start .pre) _ _
-    (forwarder (start .args .t1) (start .pre) (start .args .tag) (now (start .args .ready)) (tag-right _ (first .if1 .left) (second .if2 .left)) (third .if3 .left)
+    let past = used .before in
+    promised (from past .args .t1) (from past .pre) _ _
+    (forwarder (from past .args .t1) (from past .pre) (from past .args .tag) (now (from past .args .ready)) (right past) (past .if3 .left)
     _ _ (used .in-use .ensures) (set .candidate-set .ensures) (tested .if4 .left)
     (counted .count .result) (c .before .elected-place .result) (counted .count .ensures .0) (counted .count .ensures .1) (c .before .elected-place .ensures))
 

@@ -1,11 +1,15 @@
 -- `beside` meets its contract: each return is one case of what is sent. Assumes nothing.
 use borrow.Author.Needs.{needs}
-use Prim.Native.Nat.{ℕ, _<_}
+use Prim.Native.Nat.{ℕ, _<_, min}
 use native.Mathlib.Omega.{arith}
-use mathlib.Core.Path.{sym, ap, _∙_}
+use mathlib.Core.Path.{_≡_, sym, ap, _∙_}
+use mathlib.Core.Bool.{true}
+use lib.ListN.{replicate}
 use borrow.Author.Tests.{not-true, not-false}
-use Rattle.places.specs.Places.{places}
+use Rattle.table.specs.Table.{live}
+use Rattle.places.specs.Places.{places, setOf}
 use Rattle.election.specs.Steps.{bestPlace}
+use Rattle.returning.specs.Returning.{allUnder}
 use Rattle.returning.proofs.Laws.{own-clear, none-stands, other-algorithm, at-below, reference-clear, not-reached, reached}
 use Rattle.returning.proofs.beside.Statement.{statement}
 use Rattle.returning.proofs.beside.Tie as tie
@@ -36,18 +40,26 @@ below-requires c κs = search needs
 best-place-requires : tie.Need-best-place-requires
 best-place-requires c κs = search needs
 
-place-below : (c : tie.After-best-place) → c .best-place .result < 64
-place-below c =
-    let best = c in
-    let under = best .before .before in
-    let stands = under .before .before in
-    let clear = stands .before in
-    let start = clear .before in
-    let t = start .args .t1 in
-    let z = stands .if2 .left in
-    let u = sym (under .before .all-under .ensures) ∙ not-false _ (under .if3 .left) in
-    let q = best .best-place .ensures ∙ ap (λ (s : ℕ). bestPlace (start .args .algorithm) 0 (t .entries) (places s)) (best .before .below .ensures) in
-    at-below t (start .pre) (start .args .algorithm) (start .args .preference) z u (best .best-place .result) q
+-- what is known where the best place is found
+abbrev from : tie.After-best-place → tie.Start
+from b = b .before .before .before .before .before .before
+
+own-dp : (b : tie.After-best-place) → from b .args .dp ≡ true
+own-dp b = not-false (from b .args .dp) (b .before .before .before .before .before .if1 .left)
+
+some : (b : tie.After-best-place) → from b .args .t1 .count ≡ 0 → ⊥
+some b = b .before .before .before .before .if2 .left
+
+agreed : (b : tie.After-best-place) → allUnder (from b .args .algorithm) (live (from b .args .t1)) ≡ true
+agreed b = sym (b .before .before .before .all-under .ensures) ∙ not-false _ (b .before .before .if3 .left)
+
+found : (b : tie.After-best-place) → b .best-place .result ≡ bestPlace (from b .args .algorithm) 0 (from b .args .t1 .entries) (places (setOf (replicate (min (from b .args .t1 .count) 64) true)))
+found b =
+    b .best-place .ensures
+    ∙ ap (λ (s : ℕ). bestPlace (from b .args .algorithm) 0 (from b .args .t1 .entries) (places s)) (b .before .below .ensures)
+
+place-below : (b : tie.After-best-place) → b .best-place .result < 64
+place-below b = at-below (from b .args .t1) (from b .pre) (from b .args .algorithm) (from b .args .preference) (some b) (agreed b) _ (found b)
 
 mul-e : tie.Need-mul-e
 mul-e c = let h = place-below c in omega arith
@@ -57,45 +69,23 @@ element-copy-out-e c = place-below c
 
 returns-4 : tie.Need-returns-4
 returns-4 c =
-    let best = c .before .before .before in
-    let under = best .before .before in
-    let stands = under .before .before in
-    let clear = stands .before in
-    let start = clear .before in
-    let t = start .args .t1 in
-    let z = stands .if2 .left in
-    let u = sym (under .before .all-under .ensures) ∙ not-false _ (under .if3 .left) in
-    let q = best .best-place .ensures ∙ ap (λ (s : ℕ). bestPlace (start .args .algorithm) 0 (t .entries) (places s)) (best .before .below .ensures) in
-    rw (not-false (start .args .dp) (clear .if1 .left)) (reference-clear t (start .pre) (start .args .algorithm) (start .args .preference) z u (best .best-place .result) q (not-true _ (c .if4 .taken)))
+    let b = c .before .before .before in
+    rw (own-dp b) (reference-clear (from b .args .t1) (from b .pre) _ _ (some b) (agreed b) _ (found b) (not-true _ (c .if4 .taken)))
 
 reach-requires : tie.Need-reach-requires
 reach-requires c κs = search needs
 
 returns-5 : tie.Need-returns-5
 returns-5 c =
-    let best = c .before .before .before .before .before in
-    let under = best .before .before in
-    let stands = under .before .before in
-    let clear = stands .before in
-    let start = clear .before in
-    let t = start .args .t1 in
-    let z = stands .if2 .left in
-    let u = sym (under .before .all-under .ensures) ∙ not-false _ (under .if3 .left) in
-    let q = best .best-place .ensures ∙ ap (λ (s : ℕ). bestPlace (start .args .algorithm) 0 (t .entries) (places s)) (best .before .below .ensures) in
-    rw (not-false (start .args .dp) (clear .if1 .left)) (not-reached t (start .pre) (start .args .algorithm) (start .args .preference) z u (best .best-place .result) q (sym (c .before .reach .ensures) ∙ not-true _ (c .if5 .taken)))
+    let b = c .before .before .before .before .before in
+    rw (own-dp b)
+    (not-reached (from b .args .t1) (from b .pre) _ _ (some b) (agreed b) _ (found b) (sym (c .before .reach .ensures) ∙ not-true _ (c .if5 .taken)))
 
 returns-6 : tie.Need-returns-6
 returns-6 c =
-    let best = c .before .before .before .before .before in
-    let under = best .before .before in
-    let stands = under .before .before in
-    let clear = stands .before in
-    let start = clear .before in
-    let t = start .args .t1 in
-    let z = stands .if2 .left in
-    let u = sym (under .before .all-under .ensures) ∙ not-false _ (under .if3 .left) in
-    let q = best .best-place .ensures ∙ ap (λ (s : ℕ). bestPlace (start .args .algorithm) 0 (t .entries) (places s)) (best .before .below .ensures) in
-    rw (not-false (start .args .dp) (clear .if1 .left)) (reached t (start .pre) (start .args .algorithm) (start .args .preference) z u (best .best-place .result) q (not-false _ (c .before .before .if4 .left)) (sym (c .before .reach .ensures) ∙ not-false _ (c .if5 .left)))
+    let b = c .before .before .before .before .before in
+    rw (own-dp b)
+    (reached (from b .args .t1) (from b .pre) _ _ (some b) (agreed b) _ (found b) (not-false _ (c .before .before .if4 .left)) (sym (c .before .reach .ensures) ∙ not-false _ (c .if5 .left)))
 
 pub beside-spec : {M : Type 1} → statement M
 beside-spec =

@@ -1,0 +1,62 @@
+// Cutting a run of octets into records: the mark D5 4F, a kind octet, a length octet, and that many octets (document 01, "The bench
+// program"). Only the frame is judged here; which kinds and lengths are good is for those who read the payload.
+ghost use mathlib.Core.Path.{_≡_};
+ghost use Rattle.frames.specs.Frames.{frameAt};
+
+// The first octet of the mark,
+const MARK_FIRST: u8 = 0xD5;
+
+// and the second.
+const MARK_SECOND: u8 = 0x4F;
+
+// How many octets stand before the payload: the mark, the kind and the length.
+const HEAD_LENGTH: usize = 4;
+
+// What stands at a place of a run of octets.
+pub enum Frame {
+    // No octet at all.
+    Nothing,
+    // An octet of the mark is wrong: no octets that follow can mend it.
+    Bad,
+    // The octets end before the record does.
+    Cut,
+    // A whole record: its kind, the place of its payload, and the payload's length. The next record stands at start + len.
+    Whole { kind: u8, start: usize, len: usize },
+}
+
+// The length that a length octet says.
+fn length_in(octet: u8) -> usize
+    ensures { λ r. ⌜ r ≡ octet ⌝ }
+{
+    octet as usize
+}
+
+// What stands at place `at` of s; a place past the end counts as the end. An octet of the mark that is there and wrong makes the record bad,
+// however few octets there are; a record whose mark is right as far as it goes, and which is not all there, is cut.
+pub fn frame_at(s: &[u8], at: usize) -> Frame
+    ensures { λ r. ⌜ r ≡ frameAt (now (s .entry)) at ⌝ }
+{
+    if s.len() <= at {
+        return Frame::Nothing;
+    }
+    if s[at] != MARK_FIRST {
+        return Frame::Bad;
+    }
+    let left = s.len() - at;
+    if left < 2 {
+        return Frame::Cut;
+    }
+    if s[at + 1] != MARK_SECOND {
+        return Frame::Bad;
+    }
+    if left < HEAD_LENGTH {
+        return Frame::Cut;
+    }
+    let len = length_in(s[at + 3]);
+    if left - HEAD_LENGTH < len {
+        return Frame::Cut;
+    }
+    let kind = s[at + 2];
+    let start = at + HEAD_LENGTH;
+    Frame::Whole { kind, start, len }
+}

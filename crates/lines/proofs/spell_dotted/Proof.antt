@@ -1,0 +1,86 @@
+-- `spell_dotted` meets its contract: four octets and three dots, put one after the other, are one piece. Assumes nothing.
+use native.Mathlib.Omega.{arith}
+use Rattle.lines.proofs.Laws.{put-all, put-next, length-dotted}
+use Rattle.lines.proofs.Steps.{dotted-parts}
+use borrow.Author.Needs.{needs}
+use Rattle.lines.proofs.spell_dotted.Statement.{statement}
+use Rattle.lines.proofs.spell_dotted.Tie as tie
+
+of-u32-requires : tie.Need-of-u32-requires
+of-u32-requires c κs = search needs
+
+array-read-put-small : tie.Need-array-read-put-small
+array-read-put-small c = search needs
+
+put-small-requires : tie.Need-put-small-requires
+put-small-requires c κs = search needs
+
+put-octet-requires : tie.Need-put-octet-requires
+put-octet-requires c κs = search needs
+
+array-read-put-small-2 : tie.Need-array-read-put-small-2
+array-read-put-small-2 c = search needs
+
+put-small-requires-2 : tie.Need-put-small-requires-2
+put-small-requires-2 c κs = search needs
+
+put-octet-requires-2 : tie.Need-put-octet-requires-2
+put-octet-requires-2 c κs = search needs
+
+array-read-put-small-3 : tie.Need-array-read-put-small-3
+array-read-put-small-3 c = search needs
+
+put-small-requires-3 : tie.Need-put-small-requires-3
+put-small-requires-3 c κs = search needs
+
+put-octet-requires-3 : tie.Need-put-octet-requires-3
+put-octet-requires-3 c κs = search needs
+
+array-read-put-small-4 : tie.Need-array-read-put-small-4
+array-read-put-small-4 c = search needs
+
+put-small-requires-4 : tie.Need-put-small-requires-4
+put-small-requires-4 c κs = search needs
+
+same-length : tie.Need-same-length
+same-length c = search needs
+
+returns : tie.Need-returns
+returns c =
+    let p7 = c .before .before in
+    let p6 = p7 .before .before .before .before in
+    let p5 = p6 .before .before .before .before in
+    let p4 = p5 .before .before .before .before in
+    let p3 = p4 .before .before .before .before in
+    let p2 = p3 .before .before .before .before in
+    let p1 = p2 .before .before .before .before in
+    let o = p1 .before .before in
+    let a = o .before .before .args in
+    let pieces =
+    put-next (p1 .put-small .ensures)
+    (put-next (p2 .put-octet .ensures)
+    (put-next (p3 .put-small2 .ensures)
+    (put-next (p4 .put-octet2 .ensures)
+    (put-next (p5 .put-small3 .ensures)
+    (put-next (p6 .put-octet3 .ensures) (λ _. p7 .put-small4 .ensures))))))
+    in
+    put-all pieces (dotted-parts (a .a) (o .of-u32 .result) (o .of-u32 .ensures)) (omega (arith, length-dotted (a .a), o .before .before .pre))
+
+pub spell-dotted-spec : {M : Type 1} → statement M
+spell-dotted-spec =
+    tie.close
+    (tie.spec
+    of-u32-requires
+    array-read-put-small
+    put-small-requires
+    put-octet-requires
+    array-read-put-small-2
+    put-small-requires-2
+    put-octet-requires-2
+    array-read-put-small-3
+    put-small-requires-3
+    put-octet-requires-3
+    array-read-put-small-4
+    put-small-requires-4
+    same-length
+    returns)

@@ -1,0 +1,119 @@
+// The pieces of an answer line (document 01, "The bench program"), put into a lent buffer one after the other: an octet, a run of octets,
+// a number in decimal, an address in dotted form. One rule for all: a piece that fits from the place on is stored there, and the answer is
+// the place after it; of a piece that does not fit nothing is stored, and the answer is the place itself.
+ghost use mathlib.Core.Path.{_≡_};
+ghost use mathlib.Core.List.{[], _∷_};
+ghost use Prim.Native.Nat.{_≤_};
+ghost use lib.ListN.{length, drop};
+ghost use Rattle.lines.specs.Lines.{decimal, dotted, Put};
+
+// The character `0`; the other digits follow it.
+const ZERO: u8 = b'0';
+
+// The character between two numbers of a dotted address.
+const DOT: u8 = b'.';
+
+// How many digits a u64 has at most,
+const LONGEST_DECIMAL: usize = 20;
+
+// and how many octets a dotted address has at most.
+const LONGEST_DOTTED: usize = 15;
+
+// Puts one octet at place `at` and answers at + 1; where the buffer has no such place, it stays as it is and the answer is `at`.
+pub fn put_octet(buf: &mut [u8], at: usize, x: u8) -> usize
+    ensures { λ r. ⌜ Put (now (buf .entry)) at (x ∷ []) r (now (buf .exit)) ⌝ }
+{
+    if buf.len() <= at {
+        return at;
+    }
+    buf[at] = x;
+    at + 1
+}
+
+// Puts a run of octets from place `at` on and answers the place after it; where it does not fit, the buffer stays as it is and the answer
+// is `at`.
+pub fn put_run(buf: &mut [u8], at: usize, s: &[u8]) -> usize
+    ensures { λ r. ⌜ Put (now (buf .entry)) at (now (s .entry)) r (now (buf .exit)) ⌝ }
+{
+    if buf.len() < at {
+        return at;
+    }
+    if buf.len() - at < s.len() {
+        return at;
+    }
+    octets::store(buf, at, s);
+    at + s.len()
+}
+
+// Spells the digits of a number at the end of a text of 20 octets, and answers the place of the first.
+fn spell(text: &mut [u8], n: u64) -> usize
+    requires { ⌜ length (now text) ≡ 20 ⌝ }
+    ensures { λ r. ⌜ (r ≤ 20) × (drop r (now (text .exit)) ≡ decimal n) ⌝ }
+{
+    let mut i = LONGEST_DECIMAL;
+    let mut rest = n;
+    while 9 < rest {
+        i -= 1;
+        text[i] = ZERO + (rest % 10) as u8;
+        rest /= 10;
+    }
+    i -= 1;
+    text[i] = ZERO + rest as u8;
+    i
+}
+
+// Puts the decimal digits of a number below 256, by the same rule.
+fn put_small(buf: &mut [u8], at: usize, x: u8) -> usize
+    ensures { λ r. ⌜ Put (now (buf .entry)) at (decimal x) r (now (buf .exit)) ⌝ }
+{
+    let units = ZERO + x % 10;
+    if x < 10 {
+        return put_octet(buf, at, units);
+    }
+    let tens = ZERO + x / 10 % 10;
+    if x < 100 {
+        let pair = [tens, units];
+        return put_run(buf, at, &pair);
+    }
+    let hundreds = ZERO + x / 100;
+    let triple = [hundreds, tens, units];
+    put_run(buf, at, &triple)
+}
+
+// Puts the decimal digits of a number, highest first and without leading zeros, from place `at` on and answers the place after them; where
+// they do not fit, the buffer stays as it is and the answer is `at`.
+pub fn put_decimal(buf: &mut [u8], at: usize, n: u64) -> usize
+    ensures { λ r. ⌜ Put (now (buf .entry)) at (decimal n) r (now (buf .exit)) ⌝ }
+{
+    if n < 256 {
+        return put_small(buf, at, n as u8);
+    }
+    let mut text = [0u8; LONGEST_DECIMAL];
+    let first = spell(&mut text, n);
+    put_run(buf, at, &text[first..])
+}
+
+// Spells the dotted form of an address at the front of a text that has room for it, and answers its length.
+fn spell_dotted(text: &mut [u8], a: u32) -> usize
+    requires { ⌜ 15 ≤ length (now text) ⌝ }
+    ensures { λ r. ⌜ Put (now (text .entry)) 0 (dotted a) r (now (text .exit)) ⌝ }
+{
+    let parts = octets::of_u32(a);
+    let mut end = put_small(text, 0, parts[0]);
+    end = put_octet(text, end, DOT);
+    end = put_small(text, end, parts[1]);
+    end = put_octet(text, end, DOT);
+    end = put_small(text, end, parts[2]);
+    end = put_octet(text, end, DOT);
+    put_small(text, end, parts[3])
+}
+
+// Puts the dotted form of an address, its four octets in decimal, high octet first, with dots between, from place `at` on and answers the
+// place after it; where it does not fit, the buffer stays as it is and the answer is `at`.
+pub fn put_dotted(buf: &mut [u8], at: usize, a: u32) -> usize
+    ensures { λ r. ⌜ Put (now (buf .entry)) at (dotted a) r (now (buf .exit)) ⌝ }
+{
+    let mut text = [0u8; LONGEST_DOTTED];
+    let end = spell_dotted(&mut text, a);
+    put_run(buf, at, &text[..end])
+}
