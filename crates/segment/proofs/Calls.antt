@@ -1,5 +1,5 @@
--- One call of a segment, against the journal: the calls meet the rules of the general theorem on journals, and on the table of what is held a call
--- answers and leaves what the journal says. Assumes nothing.
+-- One call of a segment, against the journal: on the table of what is held a call answers and leaves what the journal says, and the calls meet the
+-- rules of the general theorem on journals. Assumes nothing.
 use Prim.Native.Nat.{ℕ, _≤_, _<_}
 use native.Mathlib.Omega.{arith}
 use mathlib.Core.Path.{_≡_, refl, ap, ap₂, sym, _∙_, subst}
@@ -28,6 +28,55 @@ use Rattle.returning.specs.declared.Sent.{Sent}
 use Rattle.returning.specs.Returning.{returningOf}
 use Rattle.segment.specs.Calls.{Call, announce, withdraw, elect, returning, changed, elected, sent, numberIn, replyTo, leaves, Changes}
 use Rattle.segment.specs.Journal.{Announcement, originatorKey, again, entryFrom, callNumber, callEffect, numberFor}
+
+-- THE TABLE OF ANNOUNCEMENTS that are listed in rising order
+module _ (i : List ℕ) where
+  abbrev pub state : List Announcement → Table
+  state l = tableOf i (map entryFrom l)
+
+  module _ (l : List Announcement) (h : length l ≤ 64) where
+    pub live-state : live (state l) ≡ map entryFrom l
+    live-state = live-of i (map entryFrom l) (rw length-map h)
+
+    has-state : (k : ℕ) → has keyOf k (live (state l)) ≡ has originatorKey k l
+    has-state k = ap (has keyOf k) live-state ∙ map-has entryFrom originatorKey keyOf (λ x. refl) k l
+
+    length-state : length (live (state l)) ≡ length l
+    length-state = ap length live-state ∙ length-map l entryFrom
+
+    -- a call on it answers the number that the journal gives where l is held
+    pub announced-number : (r c : List ℕ) → announced (state l) r c .number ≡ numberFor i l (announce r c)
+    unfolding announced journalNumber callNumber
+    announced-number r c =
+        ap₂ (λ (p : Bool) (n : ℕ). announceNumber i r c p n) (has-state (addressKey (routeAddress r))) length-state
+
+    pub withdrawn-number : (a : ℕ) → withdrawn (state l) a .number ≡ numberFor i l (withdraw a)
+    unfolding withdrawn journalNumber callNumber
+    withdrawn-number a = ap (withdrawNumber a) (has-state (addressKey a))
+
+    -- and leaves the table of what is then held
+    chosen : (n m : ℕ) (es : List Entry) (js : List Announcement) → n ≡ m → es ≡ map entryFrom js
+        → cond (eqb n 0) (tableOf i es) (state l) ≡ state (cond (eqb m 0) js l)
+    chosen n m es js p q = rw (p, q) (go (eqb m 0))
+      where
+        go : (b : Bool) → cond b (state js) (state l) ≡ state (cond b js l)
+        go true = refl
+        go false = refl
+
+    pub call-state : (c : Call) → leaves (state l) c ≡ state (cond (eqb (numberFor i l c) 0) (placed originatorKey (callEffect c) l) l)
+    unfolding leaves announced withdrawn callEffect callNumber journalNumber placed
+    call-state (announce r c) =
+        let p : Announcement = record { route = r; communities = c } in
+        chosen (announced (state l) r c .number) (numberFor i l (announce r c)) (insert keyOf (entryFrom p) (live (state l))) (insert originatorKey p l)
+        (announced-number r c)
+        (ap (insert keyOf (entryFrom p)) live-state ∙ sym (map-insert entryFrom originatorKey keyOf (λ x. refl) p l))
+    call-state (withdraw a) =
+        let k : ℕ = addressKey a in
+        chosen (withdrawn (state l) a .number) (numberFor i l (withdraw a)) (remove keyOf k (live (state l))) (remove originatorKey k l)
+        (withdrawn-number a)
+        (ap (remove keyOf k) live-state ∙ sym (map-remove entryFrom originatorKey keyOf (λ x. refl) k l))
+    call-state (elect tag ready) = refl
+    call-state (returning a alg p d) = refl
 
 -- THE RULES: a new address is held only where there is room, and an announcement that was accepted once is accepted wherever there is room
 room-left : (b : Bool) (n : ℕ) → b ≡ false → (b || ltb n 64) ≡ true → n < 64
@@ -82,54 +131,6 @@ module _ (i : List ℕ) where
     repeats = λ c p u v m n e.
         by-announcement (λ d q. callNumber i d u m ≡ 0 → n < 64 → callNumber i (again q) v n ≡ 0) (λ q. repeats q u v m n) c p e;
   }
-
-  -- THE TABLE OF ANNOUNCEMENTS that are listed in rising order
-  abbrev pub state : List Announcement → Table
-  state l = tableOf i (map entryFrom l)
-
-  module _ (l : List Announcement) (h : length l ≤ 64) where
-    pub live-state : live (state l) ≡ map entryFrom l
-    live-state = live-of i (map entryFrom l) (rw length-map h)
-
-    has-state : (k : ℕ) → has keyOf k (live (state l)) ≡ has originatorKey k l
-    has-state k = ap (has keyOf k) live-state ∙ map-has entryFrom originatorKey keyOf (λ x. refl) k l
-
-    length-state : length (live (state l)) ≡ length l
-    length-state = ap length live-state ∙ length-map l entryFrom
-
-    -- a call on it answers the number that the journal gives where l is held
-    pub announced-number : (r c : List ℕ) → announced (state l) r c .number ≡ numberFor i l (announce r c)
-    unfolding announced journalNumber callNumber
-    announced-number r c =
-        ap₂ (λ (p : Bool) (n : ℕ). announceNumber i r c p n) (has-state (addressKey (routeAddress r))) length-state
-
-    pub withdrawn-number : (a : ℕ) → withdrawn (state l) a .number ≡ numberFor i l (withdraw a)
-    unfolding withdrawn journalNumber callNumber
-    withdrawn-number a = ap (withdrawNumber a) (has-state (addressKey a))
-
-    -- and leaves the table of what is then held
-    chosen : (n m : ℕ) (es : List Entry) (js : List Announcement) → n ≡ m → es ≡ map entryFrom js
-        → cond (eqb n 0) (tableOf i es) (state l) ≡ state (cond (eqb m 0) js l)
-    chosen n m es js p q = rw (p, q) (go (eqb m 0))
-      where
-        go : (b : Bool) → cond b (state js) (state l) ≡ state (cond b js l)
-        go true = refl
-        go false = refl
-
-    pub call-state : (c : Call) → leaves (state l) c ≡ state (cond (eqb (numberFor i l c) 0) (placed originatorKey (callEffect c) l) l)
-    unfolding leaves announced withdrawn callEffect callNumber journalNumber placed
-    call-state (announce r c) =
-        let p : Announcement = record { route = r; communities = c } in
-        chosen (announced (state l) r c .number) (numberFor i l (announce r c)) (insert keyOf (entryFrom p) (live (state l))) (insert originatorKey p l)
-        (announced-number r c)
-        (ap (insert keyOf (entryFrom p)) live-state ∙ sym (map-insert entryFrom originatorKey keyOf (λ x. refl) p l))
-    call-state (withdraw a) =
-        let k : ℕ = addressKey a in
-        chosen (withdrawn (state l) a .number) (numberFor i l (withdraw a)) (remove keyOf k (live (state l))) (remove originatorKey k l)
-        (withdrawn-number a)
-        (ap (remove keyOf k) live-state ∙ sym (map-remove entryFrom originatorKey keyOf (λ x. refl) k l))
-    call-state (elect tag ready) = refl
-    call-state (returning a alg p d) = refl
 
 -- CALLS ON ANY TABLE
 pub refused-leaves : (t : Table) (c : Call) → (numberIn (replyTo t c) ≡ 0 → ⊥) → leaves t c ≡ t
