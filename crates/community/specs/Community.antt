@@ -1,9 +1,12 @@
 -- The DF Election Extended Community (document 01, "The community").
+--   weighsPreference a       == whether DP and preference mean something under the algorithm a
+--   noElection               == what a route without an election community says
 --   electionUnder a ac d p   == what an election community says under the algorithm a: DP and preference mean something only under 2 and 3
 --   readCommunity s          == what the eight octets s of an election community say
 --   communityOctets e        == the eight octets of an election community that says e
 --   isElection s             == whether the community s is an election community
 --   communities n s          == the first n communities of the list s, eight octets each
+--   elections cs             == the election communities among the communities cs
 --   chosen cs                == what the election communities cs of one route say together
 --   listFits s               == whether a list of communities has a length that is allowed
 --   electionIn s             == what the list of communities s says

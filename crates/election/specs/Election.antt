@@ -1,11 +1,17 @@
 -- The election for one Ethernet Tag (document 01, "The election"): for an identifier, the entries of its table in rising address order, a tag and a
 -- ready list.
+--   carries a ac e         == whether the entry e carries the algorithm a and the AC-DF bit ac
+--   allCarry a ac l        == whether all entries of l do
+--   fallback               == algorithm 0 without AC-DF
 --   inUse l                == the algorithm and the AC-DF bit in use
+--   onList ready a         == whether the address a is on the ready list
 --   eligible u ready e     == whether the entry e is a candidate
 --   candidates u ready l   == the eligible entries, in rising address order
 --   candidateSet u ready l == bit i is one exactly if the entry at place i is eligible
+--   byWeight d, byPreference lowest == algorithm 1's order, and that of 2 and 3
 --   better a d x y         == whether the candidate x is to be preferred to y under the algorithm a (1 to 3) and the digest d
 --   elected a tag d cs     == the elected one of the candidates cs
+--   refused n, reservedTag tag, answerOf i u cs set tag == the refusals, and the answer once 10 and 11 are passed
 --   electOf i l tag ready  == the whole answer
 --   NoneNamed l tag ready r == r names nobody exactly if no candidate is eligible
 use Prim.Native.Nat.{ℕ, _%_, _≤_}

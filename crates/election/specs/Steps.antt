@@ -1,6 +1,8 @@
 -- What the steps of the election promise to it. The promise of the election itself cites none of these.
+--   withBit p b            == the preference p with the bit b behind it
 --   scoreOf a d e          == the number by which a candidate is preferred under the algorithm a (1 to 3) and the digest d
 --   beats a s r            == whether the score s is to be preferred to r: the lower one under 3, else the greater one
+--   placeBeats a d es p q  == whether the entry at place p beats the one at q
 --   bestPlace a d es ps    == of the places ps of the entries es, the first whose entry has the best score; 64 where there is none
 --   electedPlace ..        == the place that is elected among the places ps
 use Prim.Native.Nat.{ℕ, _+_, _*_, _%_}

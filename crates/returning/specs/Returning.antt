@@ -2,6 +2,8 @@
 --   others a l                 == the routes of l but that of the own address a
 --   allUnder g l               == whether all routes of l carry the algorithm g
 --   reaches g p q              == whether the own preference p is at least (under 3: at most) the reference's, q
+--   sent n p d                 == the answer with the number n and the pair p and d
+--   besideReference g p d e    == what is sent beside the reference e
 --   advertised g p d os        == the preference and DP that are sent, with the own algorithm g and the administrative pair p and d, beside the other routes os
 --   returningOf l a g p d      == the whole answer
 use Prim.Native.Nat.{ℕ}

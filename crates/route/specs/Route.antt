@@ -5,6 +5,7 @@
 --   checkedNumber c           == document 01's number for each case of the check's answer
 --   checkedAddress c          == document 01's value for each case: the originator's address, or zero with a refusal
 --   routeChecked s            == the check's answer
+--   readAs n d e a            == the reader's answer with these fields
 --   readRoute s               == the reader's answer
 --   routeOctets d e a         == the 25 octets of the route with these three fields
 --   writeRouteNumber d e a n  == the writer's answer, for a buffer of n octets

@@ -2,6 +2,7 @@
 --   keyOf e                      == the number that an entry is ordered by
 --   none                         == an unused place
 --   entryOf a e                  == the entry of the address a, as its communities say e
+--   EntryRight e                 == e is what a community can say
 --   live t                       == the entries in use
 --   tableOf i l                  == THE table of the identifier i that holds the entries l: equal contents are equal states
 --   WellFormed t                 == t is a table that the calls can have made
@@ -9,6 +10,7 @@
 --   announceNumber i r c p n     == 0, or the number of the first check that refuses an announcement of the route r with the communities c
 --                                   to the table of i, where p tells whether its address is present and n are present
 --   withdrawNumber a p           == the same for a withdrawal of the address a, where p tells whether it is present
+--   changed n old new            == the answer n, with the new table if n is 0 and else the old one
 --   freshTable i, announced t r c, withdrawn t a  == the answers of the three calls
 use Prim.Native.Nat.{ℕ, _≤_}
 use mathlib.Core.Path.{_≡_}
