@@ -1,0 +1,4 @@
+-- Laws of the run, and of its turns.
+pub mod Laws
+mod Turns
+mod Words

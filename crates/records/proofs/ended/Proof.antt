@@ -1,0 +1,30 @@
+-- `ended` meets its contract, phase by phase. Assumes nothing.
+use mathlib.Core.Path.{ap, sym}
+use Rattle.records.specs.Records.{isEnd}
+use borrow.Author.Needs.{needs}
+use Rattle.records.proofs.ended.Statement.{statement}
+use Rattle.records.proofs.ended.Tie as tie
+
+enum-told : tie.Need-enum-told
+enum-told c = search needs
+
+enum-told-2 : tie.Need-enum-told-2
+enum-told-2 c = search needs
+
+enum-told-3 : tie.Need-enum-told-3
+enum-told-3 c = search needs
+
+returns : tie.Need-returns
+unfolding isEnd
+returns c = ap isEnd (sym (c .enum-told .given .1))
+
+returns-2 : tie.Need-returns-2
+unfolding isEnd
+returns-2 c = ap isEnd (sym (c .enum-told2 .given .1))
+
+returns-3 : tie.Need-returns-3
+unfolding isEnd
+returns-3 c = ap isEnd (sym (c .enum-told3 .given .1))
+
+pub ended-spec : {M : Type 1} → statement M
+ended-spec = tie.close (tie.spec enum-told enum-told-2 enum-told-3 returns returns-2 returns-3)

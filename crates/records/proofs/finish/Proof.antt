@@ -1,0 +1,51 @@
+-- `finish` meets its contract: nothing, or the line of a bad record. Assumes nothing.
+use mathlib.Core.Path.{sym, _∙_}
+use Rattle.lines.proofs.Laws.{put-as}
+use Rattle.records.proofs.Laws.{put-none, end-ended, end-empty, end-left}
+use borrow.Author.Needs.{needs}
+use Rattle.records.proofs.finish.Statement.{statement}
+use Rattle.records.proofs.finish.Tie as tie
+
+ended-requires : tie.Need-ended-requires
+ended-requires c κs = search needs
+
+returns : tie.Need-returns
+returns c =
+    let e = c .before in
+    let a = e .before .before .before .args in
+    put-as (put-none (a .out .now)) (sym (end-ended (a .b) (a .rest .now) (sym (e .ended .ensures) ∙ c .if1 .taken)))
+
+returns-2 : tie.Need-returns-2
+returns-2 c =
+    let e = c .before .before in
+    let a = e .before .before .before .args in
+    put-as (put-none (a .out .now)) (sym (end-empty (a .b) (a .rest .now) (c .if2 .taken)))
+
+slice-aggregate-put-run : tie.Need-slice-aggregate-put-run
+slice-aggregate-put-run c = search needs
+
+put-run-requires : tie.Need-put-run-requires
+put-run-requires c κs = search needs
+
+same-length : tie.Need-same-length
+same-length c = search needs
+
+returns-3 : tie.Need-returns-3
+returns-3 c =
+    let p = c .before .before in
+    let t = p .before .before .before in
+    let e = t .before .before in
+    let a = e .before .before .before .args in
+    put-as (p .put-run .ensures) (sym (end-left (a .b) (a .rest .now) (sym (e .ended .ensures) ∙ t .before .if1 .left) (t .if2 .left)))
+
+pub finish-spec : {M : Type 1} → statement M
+finish-spec =
+    tie.close
+    (tie.spec
+    ended-requires
+    returns
+    returns-2
+    slice-aggregate-put-run
+    put-run-requires
+    same-length
+    returns-3)

@@ -1,0 +1,46 @@
+use native.Mathlib.Omega.{arith}
+use mathlib.Core.Path.{refl}
+use Rattle.lines.proofs.Laws.{put-all, put-next}
+use Rattle.records.specs.Records.{line}
+use Rattle.records.proofs.Laws.{length-line}
+use borrow.Author.Needs.{needs}
+use Rattle.records.proofs.put_line.Statement.{statement}
+use Rattle.records.proofs.put_line.Tie as tie
+
+put-octet-requires : tie.Need-put-octet-requires
+put-octet-requires c κs = search needs
+
+put-octet-requires-2 : tie.Need-put-octet-requires-2
+put-octet-requires-2 c κs = search needs
+
+put-decimal-requires : tie.Need-put-decimal-requires
+put-decimal-requires c κs = search needs
+
+put-octet-requires-3 : tie.Need-put-octet-requires-3
+put-octet-requires-3 c κs = search needs
+
+same-length : tie.Need-same-length
+same-length c = search needs
+
+returns : tie.Need-returns
+unfolding line
+returns c =
+    let p4 = c .before .before in
+    let p3 = p4 .before .before .before .before in
+    let p2 = p3 .before .before .before .before in
+    let p1 = p2 .before .before .before .before in
+    let a = p1 .before .before .before .args in
+    put-all (put-next (p1 .put-octet .ensures) (put-next (p2 .put-octet2 .ensures) (put-next (p3 .put-decimal .ensures) (λ _. p4 .put-octet3 .ensures))))
+    refl
+    (omega (arith, length-line (a .letter) (a .number) (omega arith), p1 .before .before .before .pre))
+
+pub put-line-spec : {M : Type 1} → statement M
+put-line-spec =
+    tie.close
+    (tie.spec
+    put-octet-requires
+    put-octet-requires-2
+    put-decimal-requires
+    put-octet-requires-3
+    same-length
+    returns)

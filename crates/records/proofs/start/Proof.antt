@@ -1,0 +1,17 @@
+-- `start` meets its contract: an empty table, and no record taken. Assumes nothing.
+use Rattle.records.proofs.Turns.{started}
+use borrow.Author.Needs.{needs}
+use Rattle.records.proofs.start.Statement.{statement}
+use Rattle.records.proofs.start.Tie as tie
+
+slice-aggregate-fresh : tie.Need-slice-aggregate-fresh
+slice-aggregate-fresh c = search needs
+
+fresh-requires : tie.Need-fresh-requires
+fresh-requires c κs = search needs
+
+returns : tie.Need-returns
+returns c = (started (c .before .fresh .result) (c .before .fresh .ensures .0), c .before .fresh .ensures .1)
+
+pub start-spec : {M : Type 1} → statement M
+start-spec = tie.close (tie.spec slice-aggregate-fresh fresh-requires returns)
