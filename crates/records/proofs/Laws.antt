@@ -3,7 +3,7 @@
 use Prim.Native.Nat.{ℕ, zero, suc, _+_, _^_, _≤_, _<_}
 use native.Mathlib.Nat.{not-suc-le-zero}
 use native.Mathlib.Omega.{arith}
-use mathlib.Core.Path.{_≡_, refl, ap, _∙_, sym}
+use mathlib.Core.Path.{_≡_, refl, ap, _∙_, sym, subst}
 use mathlib.Core.Bool.{Bool, true, false, cond}
 use mathlib.Core.List.{List, [], _∷_, _++_}
 use lib.ListN.{length, take, drop, length-append}
@@ -14,8 +14,9 @@ use Rattle.frames.specs.Frames.{Front, nothing, bad, cut, whole, front}
 use Rattle.frames.proofs.Laws.{Found, cut-begun, nothing-empty, whole-record, whole-append, bad-append}
 use Rattle.octets.proofs.Laws.{stored-front}
 use Rattle.lines.specs.Lines.{decimal, dotted, Put}
-use Rattle.lines.proofs.Laws.{put-made, length-decimal, length-decimal-octet, length-dotted}
+use Rattle.lines.proofs.Laws.{put-made, put-place, put-all, length-decimal, length-decimal-octet, length-dotted}
 use Rattle.records.specs.declared.Bench.{Bench}
+use Rattle.records.specs.Steps.{Written}
 use Rattle.records.specs.Records.{line, badLine, electedLine, queryLine, turn, hasEnded, before, runFor, runFrom, endOf}
 
 -- ---- lines
@@ -36,6 +37,21 @@ query-refused r h = rw (ne-eqb (r .number) 0 h)
 pub query-accepted : (r : Answer) → r .number ≡ 0 → electedLine (r .address) (r .n) ≡ queryLine r
 unfolding queryLine
 query-accepted r h = rw (eq-eqb (r .number) 0 h)
+
+-- ---- octets written into a buffer
+
+-- what is put where there is room is written
+pub written : {d : List ℕ} {at : ℕ} {s : List ℕ} {r : ℕ} {e : List ℕ} → Put d at s r e → at + length s ≤ length d → Written d at s r e
+written p h = record { fits = h; place = put-place p h; buffer = p .buffer }
+
+-- pieces that are put one after another are written as a whole
+pub written-all : {d : List ℕ} {at : ℕ} {s : List ℕ} {r : ℕ} {e t : List ℕ}
+    → (at + length s ≤ length d → Put d at s r e) → s ≡ t → at + length t ≤ length d → Written d at t r e
+written-all p q h = written (put-all p q h) h
+
+-- the same octets, said otherwise
+pub written-as : {d : List ℕ} {at : ℕ} {s t : List ℕ} {r : ℕ} {e : List ℕ} → Written d at s r e → s ≡ t → Written d at t r e
+written-as {d} {at} {s} {t} {r} {e} w q = subst (λ (l : List ℕ). Written d at l r e) q w
 
 -- ---- the run
 

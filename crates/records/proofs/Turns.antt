@@ -18,14 +18,13 @@ use Rattle.table.specs.declared.Change.{Change}
 use Rattle.table.specs.Table.{live, WellFormed, freshTable, announced, withdrawn}
 use Rattle.election.specs.declared.Answer.{Answer}
 use Rattle.election.specs.Election.{electOf}
-use Rattle.lines.specs.Lines.{Put}
-use Rattle.lines.proofs.Laws.{put-as, put-made}
 use Rattle.records.specs.declared.Phase.{Phase}
 use Rattle.records.specs.declared.Phase.the-variants.{Start, Running, Ended}
 use Rattle.records.specs.declared.Bench.{Bench}
 use Rattle.records.specs.declared.Step.{Step}
 use Rattle.records.specs.Records.{Turn, line, running, ended, refused, badLine, queryLine, textTurn, announceTurn, withdrawTurn, queryTurn, laterTurn, wordsIn, turnIn, turn, first}
-use Rattle.records.specs.Steps.{Stepped}
+use Rattle.records.specs.Steps.{Written, Stepped}
+use Rattle.records.proofs.Laws.{written-as}
 
 -- four octets are the list of themselves
 pub four : (l : List ℕ) → length l ≡ 4 → getD l 0 0 ∷ getD l 1 0 ∷ getD l 2 0 ∷ getD l 3 0 ∷ [] ≡ l
@@ -49,24 +48,24 @@ take-of-all n l h = take-all n l (omega arith)
 
 module _ {d : List ℕ} {at n : ℕ} {e : List ℕ} where
   pub stepped-announce : (t : Table) (p : List ℕ) (x : Change) → x ≡ announced t (take 25 p) (take (length p - 25) (drop 25 p)) → WellFormed (x .table)
-      → Put d at (line 97 (x .number)) n e → Stepped d at (announceTurn t p) (record { bench = running (x .table); at = n }) e
+      → Written d at (line 97 (x .number)) n e → Stepped d at (announceTurn t p) (record { bench = running (x .table); at = n }) e
   unfolding announceTurn
   stepped-announce t p x q k w =
       let a : x ≡ announced t (take 25 p) (drop 25 p) = q ∙ ap (announced t (take 25 p)) (take-of-all (length p - 25) (drop 25 p) (length-drop 25 p)) in
-      record { put = put-as w (ap (λ (y : Change). line 97 (y .number)) a); next = ap (λ (y : Change). running (y .table)) a; kept = k }
+      record { put = written-as w (ap (λ (y : Change). line 97 (y .number)) a); next = ap (λ (y : Change). running (y .table)) a; kept = k }
 
   pub stepped-withdraw : (t : Table) (p : List ℕ) (x : Change) → x ≡ withdrawn t (numberOf p) → WellFormed (x .table)
-      → Put d at (line 119 (x .number)) n e → Stepped d at (withdrawTurn t p) (record { bench = running (x .table); at = n }) e
+      → Written d at (line 119 (x .number)) n e → Stepped d at (withdrawTurn t p) (record { bench = running (x .table); at = n }) e
   unfolding withdrawTurn
   stepped-withdraw t p x q k w =
-      record { put = put-as w (ap (λ (y : Change). line 119 (y .number)) q); next = ap (λ (y : Change). running (y .table)) q; kept = k }
+      record { put = written-as w (ap (λ (y : Change). line 119 (y .number)) q); next = ap (λ (y : Change). running (y .table)) q; kept = k }
 
-  module _ (t : Table) (p : List ℕ) (x : TextRead) (q : x ≡ readText p) (w : Put d at (line 112 (x .number)) n e) where
+  module _ (t : Table) (p : List ℕ) (x : TextRead) (q : x ≡ readText p) (w : Written d at (line 112 (x .number)) n e) where
     pub stepped-end : WellFormed t → (x .number ≡ 0 → ⊥) → Stepped d at (textTurn t p) (record { bench = ended t; at = n }) e
     unfolding textTurn
     stepped-end k h =
         let m = ap (λ (y : TextRead). y .number) q in
-        record { put = put-as w (ap (line 112) m); next = rw (ne-eqb (readText p .number) 0 (λ z. h (m ∙ z))); kept = k }
+        record { put = written-as w (ap (line 112) m); next = rw (ne-eqb (readText p .number) 0 (λ z. h (m ∙ z))); kept = k }
 
     pub stepped-begin : (y : Change) → x .number ≡ 0 → y ≡ freshTable (x .esi) → WellFormed (y .table)
         → Stepped d at (textTurn t p) (record { bench = running (y .table); at = n }) e
@@ -74,14 +73,14 @@ module _ {d : List ℕ} {at n : ℕ} {e : List ℕ} where
     stepped-begin y h f k =
         let m = ap (λ (z : TextRead). z .number) q in
         let i = ap (λ (z : TextRead). z .esi) q in
-        record { put = put-as w (ap (line 112) m); next = rw (eq-eqb (readText p .number) 0 (sym m ∙ h), ← i, ← f); kept = k }
+        record { put = written-as w (ap (line 112) m); next = rw (eq-eqb (readText p .number) 0 (sym m ∙ h), ← i, ← f); kept = k }
 
   pub stepped-query : (t : Table) (p : List ℕ) (x : Answer) (tag : ℕ) (ready : List ℕ) → tag ≡ numberOf (take 4 p) → ready ≡ wordsIn (drop 4 p)
-      → x ≡ electOf (t .esi) (live t) tag ready → WellFormed t → Put d at (queryLine x) n e
+      → x ≡ electOf (t .esi) (live t) tag ready → WellFormed t → Written d at (queryLine x) n e
       → Stepped d at (queryTurn t p) (record { bench = running t; at = n }) e
   unfolding queryTurn
   stepped-query t p x tag ready g l q k w =
-      record { put = put-as w (ap queryLine (q ∙ rw (g, l))); next = refl; kept = k }
+      record { put = written-as w (ap queryLine (q ∙ rw (g, l))); next = refl; kept = k }
 
 -- ---- which turn a later record's is
 
@@ -130,9 +129,10 @@ started x e = rw e
 
 -- ---- which turn a record's is, by phase
 
--- no octets put into a buffer
-put-empty : (d : List ℕ) (at : ℕ) → at ≤ length d → Put d at [] at d
-put-empty d at h = put-made (omega arith) (omega arith) (sym (stored-fits d at [] (omega arith) ∙ rw (add-zero, append-nil) (take-append-drop at d)))
+-- no octets written into a buffer
+pub written-none : (d : List ℕ) (at : ℕ) → at ≤ length d → Written d at [] at d
+written-none d at h =
+    record { fits = omega arith; place = omega arith; buffer = sym (stored-fits d at [] (omega arith) ∙ rw (add-zero, append-nil) (take-append-drop at d)) }
 
 -- the state of a phase and a table
 abbrev inPhase : Table → Phase → Bench
@@ -156,4 +156,4 @@ module _ (b : Bench) (k : ℕ) (p : List ℕ) where
   unfolding turnIn
   stepped-ended d at h l w =
       let q : _≡_ {A = Turn} (record { line = []; next = ended (b .table) }) (turn b k p) = rw h in
-      stepped-as (record { put = put-empty d at l; next = ap (inPhase (b .table)) h; kept = w }) q
+      stepped-as (record { put = written-none d at l; next = ap (inPhase (b .table)) h; kept = w }) q

@@ -1,8 +1,10 @@
 // The bench program's run (document 01, "The bench program"): a whole record is carried out upon a table, and its line is put into a lent
-// buffer. A line has at most 40 octets. Reading and writing blocks of octets is the program's.
+// buffer. A line has at most 40 octets. Blocks of input are taken record by record; reading and writing them is the program's.
 use election::Answer;
+use frames::Frame;
 use table::Table;
 ghost use mathlib.Core.Path.{_≡_};
+ghost use mathlib.Core.Bool.{true};
 ghost use Prim.Native.Nat.{_+_, _≤_, _/_};
 ghost use lib.ListN.{length, take};
 ghost use Rattle.table.specs.Table.{WellFormed};
@@ -23,7 +25,7 @@ ghost use Rattle.records.specs.Records.{
   first,
   endOf,
 };
-ghost use Rattle.records.specs.Steps.{Stepped};
+ghost use Rattle.records.specs.Steps.{Written, Stepped, Advanced, Ran, Stopped};
 
 // Where a run stands: no record was taken, records are carried out, nothing more is looked at.
 pub enum Phase {
@@ -44,13 +46,23 @@ pub struct Step {
     pub at: usize,
 }
 
+// How far a block of input was taken: the state, how many octets of input are used, and how many octets of output are made.
+pub struct Progress {
+    pub bench: Bench,
+    pub used: usize,
+    pub wrote: usize,
+}
+
+// The room that any line finds enough.
+const LINE_ROOM: usize = 40;
+
 // The most ready addresses that are read from a query.
 const MAX_READY: usize = 64;
 
 // Puts the line of a letter and a number.
 fn put_line(out: &mut [u8], at: usize, letter: u8, number: u8) -> usize
     requires { ⌜ at + 40 ≤ length (now out) ⌝ }
-    ensures { λ r. ⌜ Put (now (out .entry)) at (line letter number) r (now (out .exit)) ⌝ }
+    ensures { λ r. ⌜ Written (now (out .entry)) at (line letter number) r (now (out .exit)) ⌝ }
 {
     let mut end = lines::put_octet(out, at, letter);
     end = lines::put_octet(out, end, b' ');
@@ -61,7 +73,7 @@ fn put_line(out: &mut [u8], at: usize, letter: u8, number: u8) -> usize
 // Puts the line of an accepted query.
 fn put_elected(out: &mut [u8], at: usize, address: u32, n: u32) -> usize
     requires { ⌜ at + 40 ≤ length (now out) ⌝ }
-    ensures { λ r. ⌜ Put (now (out .entry)) at (electedLine address n) r (now (out .exit)) ⌝ }
+    ensures { λ r. ⌜ Written (now (out .entry)) at (electedLine address n) r (now (out .exit)) ⌝ }
 {
     let mut end = lines::put_run(out, at, b"q 0 ");
     end = lines::put_dotted(out, end, address);
@@ -73,7 +85,7 @@ fn put_elected(out: &mut [u8], at: usize, address: u32, n: u32) -> usize
 // Puts the line of an election's answer.
 fn put_answer(out: &mut [u8], at: usize, r: Answer) -> usize
     requires { ⌜ at + 40 ≤ length (now out) ⌝ }
-    ensures { λ e. ⌜ Put (now (out .entry)) at (queryLine r) e (now (out .exit)) ⌝ }
+    ensures { λ e. ⌜ Written (now (out .entry)) at (queryLine r) e (now (out .exit)) ⌝ }
 {
     let number = r.number;
     if number != 0 {
@@ -287,5 +299,60 @@ fn carry_out(b: Bench, kind: u8, payload: &[u8], out: &mut [u8], at: usize) -> S
         }
         Phase::Running => later(t, kind, payload, out, at),
         Phase::Ended => Step { bench: b, at: at },
+    }
+}
+
+// One record, if there is room for its line: the state after it, and the places after it and after its line. Where the run has ended, or the room is
+// too little, or the octets from place `used` on hold no whole record, nothing is done.
+fn advance(b: Bench, input: &[u8], used: usize, out: &mut [u8], wrote: usize) -> Progress
+    requires { ⌜ (used ≤ length (now input)) × (wrote ≤ length (now out)) × WellFormed (b .table) ⌝ }
+    ensures { λ r. ⌜ Advanced b (now (input .entry)) used (now (out .entry)) wrote r (now (out .exit)) ⌝ }
+{
+    let room = out.len() - wrote;
+    if room < LINE_ROOM {
+        return Progress { bench: b, used: used, wrote: wrote };
+    }
+    if ended(b) {
+        return Progress { bench: b, used: used, wrote: wrote };
+    }
+    let frame = frames::frame_at(input, used);
+    match frame {
+        Frame::Nothing => Progress { bench: b, used: used, wrote: wrote },
+        Frame::Cut => Progress { bench: b, used: used, wrote: wrote },
+        Frame::Bad => {
+            let t = b.table;
+            let step = refuse(t, out, wrote);
+            let next = step.bench;
+            let end = step.at;
+            Progress { bench: next, used: input.len(), wrote: end }
+        }
+        Frame::Whole { kind, start, len } => {
+            let after = start + len;
+            let step = carry_out(b, kind, &input[start..after], out, wrote);
+            let next = step.bench;
+            let end = step.at;
+            Progress { bench: next, used: after, wrote: end }
+        }
+    }
+}
+
+// Takes the records of a block of input, as far as they are whole and their lines find room: the first `used` octets of the input are done with, and what
+// they print stands in the first `wrote` octets of the buffer; the others stay as they are. Whatever follows the block, the run goes on from the
+// state in the answer, with the octets of the block that were not used at its front.
+pub fn process(b: Bench, input: &[u8], out: &mut [u8]) -> Progress
+    requires { ⌜ WellFormed (b .table) ⌝ }
+    ensures run { λ r. ⌜ Ran b (now (input .entry)) (now (out .entry)) r (now (out .exit)) ⌝ }
+    ensures stopped { λ r. ⌜ Stopped (now (input .entry)) (now (out .entry)) r ≡ true ⌝ }
+{
+    let mut p = Progress { bench: b, used: 0, wrote: 0 };
+    loop {
+        let bench = p.bench;
+        let used = p.used;
+        let wrote = p.wrote;
+        let next = advance(bench, input, used, out, wrote);
+        if next.used == used {
+            return next;
+        }
+        p = next;
     }
 }

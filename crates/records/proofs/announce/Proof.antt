@@ -1,3 +1,4 @@
+-- `announce` meets its contract: the record is cut after its route, and the table's answer is told. Assumes nothing.
 use mathlib.Core.Path.{sym}
 use lib.Seq.{length-take-le}
 use Rattle.records.proofs.Turns.{stepped-announce}

@@ -1,3 +1,4 @@
+-- `begin` meets its contract: the text is read, and a fresh table is made of its identifier. Assumes nothing.
 use Rattle.records.proofs.Turns.{stepped-end, stepped-begin}
 use borrow.Author.Needs.{needs}
 use Rattle.records.proofs.begin.Statement.{statement}

@@ -1,5 +1,5 @@
-use Rattle.lines.proofs.Laws.{put-as}
-use Rattle.records.proofs.Laws.{query-refused, query-accepted}
+-- `put_answer` meets its contract: which line an election's answer has. Assumes nothing.
+use Rattle.records.proofs.Laws.{written-as, query-refused, query-accepted}
 use borrow.Author.Needs.{needs}
 use Rattle.records.proofs.put_answer.Statement.{statement}
 use Rattle.records.proofs.put_answer.Tie as tie
@@ -11,7 +11,7 @@ same-length : tie.Need-same-length
 same-length c = search needs
 
 returns : tie.Need-returns
-returns c = put-as (c .before .before .put-line .ensures) (query-refused _ (c .before .before .before .before .if1 .taken))
+returns c = written-as (c .before .before .put-line .ensures) (query-refused _ (c .before .before .before .before .if1 .taken))
 
 put-elected-requires : tie.Need-put-elected-requires
 put-elected-requires c κs = search needs
@@ -20,7 +20,7 @@ same-length-2 : tie.Need-same-length-2
 same-length-2 c = search needs
 
 returns-2 : tie.Need-returns-2
-returns-2 c = put-as (c .before .before .put-elected .ensures) (query-accepted _ (c .before .before .before .before .if1 .left))
+returns-2 c = written-as (c .before .before .put-elected .ensures) (query-accepted _ (c .before .before .before .before .if1 .left))
 
 pub put-answer-spec : {M : Type 1} → statement M
 put-answer-spec =

@@ -1,8 +1,9 @@
+-- `put_elected` meets its contract: the five pieces of the line are put one after another, and there is room for them. Assumes nothing.
 use native.Mathlib.Omega.{arith}
 use mathlib.Core.Path.{refl}
-use Rattle.lines.proofs.Laws.{put-all, put-next}
+use Rattle.lines.proofs.Laws.{put-next}
 use Rattle.records.specs.Records.{electedLine}
-use Rattle.records.proofs.Laws.{length-elected}
+use Rattle.records.proofs.Laws.{written-all, length-elected}
 use borrow.Author.Needs.{needs}
 use Rattle.records.proofs.put_elected.Statement.{statement}
 use Rattle.records.proofs.put_elected.Tie as tie
@@ -37,7 +38,7 @@ returns c =
     let p2 = p3 .before .before .before .before in
     let p1 = p2 .before .before .before .before in
     let s = p1 .before .before .before .before in
-    put-all (put-next (p1 .put-run .ensures) (put-next (p2 .put-dotted .ensures) (put-next (p3 .put-octet .ensures) (put-next (p4 .put-decimal .ensures) (λ _. p5 .put-octet2 .ensures)))))
+    written-all (put-next (p1 .put-run .ensures) (put-next (p2 .put-dotted .ensures) (put-next (p3 .put-octet .ensures) (put-next (p4 .put-decimal .ensures) (λ _. p5 .put-octet2 .ensures)))))
     refl
     (omega (arith, length-elected (s .args .address) (s .args .n) (omega arith), s .pre))
 

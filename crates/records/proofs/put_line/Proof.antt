@@ -1,8 +1,9 @@
+-- `put_line` meets its contract: the four pieces of the line are put one after another, and there is room for them. Assumes nothing.
 use native.Mathlib.Omega.{arith}
 use mathlib.Core.Path.{refl}
-use Rattle.lines.proofs.Laws.{put-all, put-next}
+use Rattle.lines.proofs.Laws.{put-next}
 use Rattle.records.specs.Records.{line}
-use Rattle.records.proofs.Laws.{length-line}
+use Rattle.records.proofs.Laws.{written-all, length-line}
 use borrow.Author.Needs.{needs}
 use Rattle.records.proofs.put_line.Statement.{statement}
 use Rattle.records.proofs.put_line.Tie as tie
@@ -30,7 +31,7 @@ returns c =
     let p2 = p3 .before .before .before .before in
     let p1 = p2 .before .before .before .before in
     let a = p1 .before .before .before .args in
-    put-all (put-next (p1 .put-octet .ensures) (put-next (p2 .put-octet2 .ensures) (put-next (p3 .put-decimal .ensures) (λ _. p4 .put-octet3 .ensures))))
+    written-all (put-next (p1 .put-octet .ensures) (put-next (p2 .put-octet2 .ensures) (put-next (p3 .put-decimal .ensures) (λ _. p4 .put-octet3 .ensures))))
     refl
     (omega (arith, length-line (a .letter) (a .number) (omega arith), p1 .before .before .before .pre))
 

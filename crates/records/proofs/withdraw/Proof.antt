@@ -1,3 +1,4 @@
+-- `withdraw` meets its contract: the address is read, and the table's answer is told. Assumes nothing.
 use mathlib.Core.Path.{ap, _∙_}
 use Rattle.octets.specs.Octets.{numberOf}
 use Rattle.table.specs.Table.{withdrawn}

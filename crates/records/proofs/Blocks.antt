@@ -1,0 +1,135 @@
+-- Laws of taking a block of input record by record. Assumes nothing.
+use Prim.Native.Nat.{ℕ, _+_, _-_, _≤_, _<_}
+use native.Mathlib.Nat.{le-refl}
+use native.Mathlib.Omega.{arith}
+use mathlib.Core.Path.{_≡_, refl, ap, _∙_, sym, subst}
+use mathlib.Core.Bool.{Bool, true, false, _||_}
+use mathlib.Core.List.{List, [], _++_, append-assoc, append-nil}
+use lib.ListN.{length, take, drop, length-append, length-drop}
+use lib.Seq.{take-at, drop-at, drop-drop, length-take-le}
+use borrow.Author.Tests.{lt-ltb}
+use Rattle.octets.proofs.Laws.{stored-fits, length-stored}
+use Rattle.table.specs.Table.{WellFormed}
+use Rattle.frames.specs.Frames.{nothing, bad, cut, front}
+use Rattle.frames.proofs.Laws.{Found}
+use Rattle.records.specs.declared.Bench.{Bench}
+use Rattle.records.specs.declared.Step.{Step}
+use Rattle.records.specs.declared.Progress.{Progress}
+use Rattle.records.specs.Records.{refused, badLine, turn, isEnd, hasEnded, runFrom}
+use Rattle.records.specs.Steps.{Written, Stepped, isPart, stopped, Advanced, Ran, Stopped}
+use Rattle.records.proofs.Laws.{run-ended, run-found, run-spoilt}
+use Rattle.records.proofs.Turns.{written-none}
+
+-- ---- octets written at a place: those before it and they themselves, and those after
+
+module _ {d : List ℕ} {at : ℕ} {s : List ℕ} {r : ℕ} {e : List ℕ} (w : Written d at s r e) where
+  upto : length (take at d ++ s) ≡ r
+  upto = simp length-append (rw (length-take-le at d (omega (arith, w .fits))) (sym (w .place)))
+
+  laid : e ≡ (take at d ++ s) ++ drop r d
+  laid = w .buffer ∙ stored-fits d at s (w .fits) ∙ rw (w .place)
+
+  pub written-upto : take r e ≡ take at d ++ s
+  written-upto = ap (take r) laid ∙ take-at (take at d ++ s) (drop r d) r upto
+
+  pub written-after : drop r e ≡ drop r d
+  written-after = ap (drop r) laid ∙ drop-at (take at d ++ s) (drop r d) r upto
+
+  pub written-length : length e ≡ length d
+  written-length = ap length (w .buffer) ∙ length-stored d at s
+
+-- the part of the input between two places
+pub part-length : (s : List ℕ) (start len : ℕ) → start + len ≤ length s → len < 256 → length (take (start + len - start) (drop start s)) ≤ 255
+part-length s start len h l = rw (length-take-le (start + len - start) (drop start s) (simp length-drop (omega arith))) (omega arith)
+
+-- ---- why no record is taken
+
+or-true : (t : Bool) → (t || true) ≡ true
+or-true true = refl
+or-true false = refl
+
+module _ (b : Bench) (s : List ℕ) (n : ℕ) where
+  pub stopped-ended : hasEnded b ≡ true → stopped b s n ≡ true
+  unfolding stopped
+  stopped-ended h = rw h
+
+  pub stopped-room : n < 40 → stopped b s n ≡ true
+  unfolding stopped
+  stopped-room h = rw (lt-ltb n 40 h) (or-true (hasEnded b))
+
+  stopped-part : isPart (front s) ≡ true → stopped b s n ≡ true
+  unfolding stopped
+  stopped-part h = rw (h, or-true) (or-true (hasEnded b))
+
+  pub stopped-nothing : s ≡ [] → stopped b s n ≡ true
+  unfolding isPart front
+  stopped-nothing e = stopped-part (rw e)
+
+  pub stopped-cut : front s ≡ cut → stopped b s n ≡ true
+  unfolding isPart
+  stopped-cut e = stopped-part (rw e)
+
+-- ---- one record, or none
+
+module _ (b : Bench) (s : List ℕ) (i : ℕ) (d : List ℕ) (w : ℕ) (h : i ≤ length s) where
+  pub advanced-none : w ≤ length d → WellFormed (b .table) → stopped b (drop i s) (length d - w) ≡ true
+      → Advanced b s i d w (record { bench = b; used = i; wrote = w }) d
+  advanced-none l k q =
+      record { line = []; put = written-none d w l; used = h; forward = le-refl i; run = λ r. refl; still = λ z. q; kept = k }
+
+  pub advanced-bad : (x : Step) (e : List ℕ) → hasEnded b ≡ false → front (drop i s) ≡ bad → Stepped d w (refused (b .table)) x e
+      → Advanced b s i d w (record { bench = x .bench; used = length s; wrote = x .at }) e
+  unfolding isEnd
+  advanced-bad x e n f t =
+      let o : hasEnded (x .bench) ≡ true = ap hasEnded (t .next) in
+      record {
+        line = badLine;
+        put = t .put;
+        used = le-refl (length s);
+        forward = h;
+        run = λ r. run-spoilt b (drop i s) r n f ∙ sym (append-nil badLine) ∙ ap (badLine ++_) (sym (run-ended (x .bench) (drop (length s) s ++ r) o));
+        still = λ z. stopped-ended (x .bench) (drop (length s) s) (length d - x .at) o;
+        kept = t .kept;
+      }
+
+  pub advanced-whole : (k start len : ℕ) (x : Step) (e : List ℕ) → hasEnded b ≡ false → Found s i k start len
+      → Stepped d w (turn b k (take (start + len - start) (drop start s))) x e → Advanced b s i d w (record { bench = x .bench; used = start + len; wrote = x .at }) e
+  advanced-whole k start len x e n f t₀ =
+      let u = turn b k (take len (drop start s)) in
+      let q : start + len - start ≡ len = omega arith in
+      let t : Stepped d w u x e = subst (λ (m : ℕ). Stepped d w (turn b k (take m (drop start s))) x e) q t₀ in
+      record {
+        line = u .line;
+        put = t .put;
+        used = f .fits;
+        forward = omega (arith, f .begins);
+        run = λ r. run-found b s r n f ∙ ap (λ (c : Bench). u .line ++ runFrom c (drop (start + len) s ++ r)) (sym (t .next));
+        still = λ z. absurd (omega (arith, f .begins, z));
+        kept = t .kept;
+      }
+
+-- ---- the records of a block
+
+pub ran-none : (b : Bench) (s d : List ℕ) → WellFormed (b .table) → Ran b s d (record { bench = b; used = 0; wrote = 0 }) d
+ran-none b s d k = record { used = omega arith; wrote = omega arith; run = λ r. refl; others = refl; kept = k }
+
+pub ran-next : {b : Bench} {s d : List ℕ} {p : Progress} {e : List ℕ} {q : Progress} {f : List ℕ} → length e ≡ length d → Ran b s d p e
+    → Advanced (p .bench) s (p .used) e (p .wrote) q f → Ran b s d q f
+ran-next {b} {s} {d} {p} {e} {q} {f} l m a =
+    let n = length (a .line) in
+    record {
+      used = a .used;
+      wrote = omega (arith, a .put .fits, a .put .place, l);
+      run = λ r. m .run r
+          ∙ ap (take (p .wrote) e ++_) (a .run r)
+          ∙ sym (append-assoc (take (p .wrote) e) (a .line) (runFrom (q .bench) (drop (q .used) s ++ r)))
+          ∙ ap (λ (x : List ℕ). x ++ runFrom (q .bench) (drop (q .used) s ++ r)) (sym (written-upto (a .put)));
+      others = written-after (a .put)
+          ∙ rw (a .put .place, ← drop-drop n (p .wrote) e, ← drop-drop n (p .wrote) d) (ap (drop n) (m .others));
+      kept = a .kept;
+    }
+
+-- where the last step took no record, there was a reason
+pub ran-stopped : (d : List ℕ) {b : Bench} {s : List ℕ} {i w : ℕ} {e : List ℕ} {q : Progress} {f : List ℕ} → length e ≡ length d → Advanced b s i e w q f
+    → q .used ≡ i → Stopped s d q ≡ true
+ran-stopped d {b} {s} {i} {w} {e} {q} {f} l a h = sym (ap (λ (n : ℕ). stopped (q .bench) (drop (q .used) s) (n - q .wrote)) l) ∙ a .still (sym h)
