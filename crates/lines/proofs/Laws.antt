@@ -7,8 +7,8 @@ use mathlib.Core.Path.{_≡_, refl, ap, _∙_, sym, subst}
 use mathlib.Core.Bool.{Bool, true, false, cond}
 use mathlib.Core.List.{List, [], _∷_, _++_, append-nil}
 use lib.ListN.{length, getD, take, length-append, List·getD-append}
-use lib.Dec.{ltb, eqb}
-use borrow.Author.Tests.{ne-eqb, lt-ltb, le-ltb, le-leb, lt-leb, ltb-true, ltb-false}
+use lib.Dec.{leb, ltb, eqb}
+use borrow.Author.Tests.{ne-eqb, lt-ltb, le-ltb, le-leb, lt-leb, leb-true, ltb-true, ltb-false}
 use Rattle.octets.specs.Octets.{stored, numberOf, octetsOf}
 use Rattle.octets.proofs.Laws.{Octets, octets-nil, octets-cons, octets-append, stored-not, length-stored, stored-stored, take-stored, length-octets, octets-octets, octets-number, number-octets-small}
 use Rattle.lines.specs.Lines.{digit, digits, decimal, joined, dotted, placeAfter, Put}
@@ -225,6 +225,15 @@ module _ {d : List ℕ} {at : ℕ} {s : List ℕ} {r : ℕ} {e : List ℕ} (p : 
   pub put-not : length d < at + length s → (r ≡ at) × (e ≡ d)
   unfolding placeAfter
   put-not h = (p .place ∙ rw (lt-leb (at + length s) (length d) h), p .buffer ∙ stored-not d at s h)
+
+  -- the place after a piece is inside the buffer or at its end
+  pub put-within : at ≤ length d → r ≤ length d
+  unfolding placeAfter
+  put-within h = rw (p .place) (by-test (leb (at + length s) (length d)) (leb-true (at + length s) (length d)))
+    where
+      by-test : (t : Bool) → (t ≡ true → at + length s ≤ length d) → cond t (at + length s) at ≤ length d
+      by-test true k = k refl
+      by-test false k = h
 
   pub put-length : length e ≡ length d
   put-length = ap length (p .buffer) ∙ length-stored d at s

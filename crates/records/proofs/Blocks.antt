@@ -1,14 +1,15 @@
 -- Laws of taking a block of input record by record. Assumes nothing.
-use Prim.Native.Nat.{ℕ, _+_, _-_, _≤_, _<_}
-use native.Mathlib.Nat.{le-refl}
+use Prim.Native.Nat.{ℕ, _+_, _-_, _≤_, _<_, min}
+use native.Mathlib.Nat.{le-refl, add-comm}
 use native.Mathlib.Omega.{arith}
 use mathlib.Core.Path.{_≡_, refl, ap, _∙_, sym, subst}
 use mathlib.Core.Bool.{Bool, true, false, _||_}
 use mathlib.Core.List.{List, [], _++_, append-assoc, append-nil}
-use lib.ListN.{length, take, drop, length-append, length-drop}
-use lib.Seq.{take-at, drop-at, drop-drop, length-take-le}
+use lib.ListN.{length, take, drop, getD, set, length-append, length-drop, length-take, drop-of-length-le}
+use lib.Seq.{take-at, drop-at, drop-drop, length-take-le, getD-append-add, getD-drop, getD-take}
 use borrow.Author.Tests.{lt-ltb}
-use Rattle.octets.proofs.Laws.{stored-fits, length-stored}
+use Rattle.octets.specs.Octets.{stored}
+use Rattle.octets.proofs.Laws.{stored-fits, stored-front, length-stored, front-next, front-all}
 use Rattle.table.specs.Table.{WellFormed}
 use Rattle.frames.specs.Frames.{nothing, bad, cut, front}
 use Rattle.frames.proofs.Laws.{Found}
@@ -16,7 +17,7 @@ use Rattle.records.specs.declared.Bench.{Bench}
 use Rattle.records.specs.declared.Step.{Step}
 use Rattle.records.specs.declared.Progress.{Progress}
 use Rattle.records.specs.Records.{refused, badLine, turn, isEnd, hasEnded, runFrom}
-use Rattle.records.specs.Steps.{Written, Stepped, isPart, stopped, Advanced, Ran, Stopped}
+use Rattle.records.specs.Steps.{Written, Stepped, isPart, stopped, Advanced, Ran, Stopped, kept}
 use Rattle.records.proofs.Laws.{run-ended, run-found, run-spoilt}
 use Rattle.records.proofs.Turns.{written-none}
 
@@ -133,3 +134,40 @@ ran-next {b} {s} {d} {p} {e} {q} {f} l m a =
 pub ran-stopped : (d : List ℕ) {b : Bench} {s : List ℕ} {i w : ℕ} {e : List ℕ} {q : Progress} {f : List ℕ} → length e ≡ length d → Advanced b s i e w q f
     → q .used ≡ i → Stopped s d q ≡ true
 ran-stopped d {b} {s} {i} {w} {e} {q} {f} l a h = sym (ap (λ (n : ℕ). stopped (q .bench) (drop (q .used) s) (n - q .wrote)) l) ∙ a .still (sym h)
+
+-- ---- octets moved to the front
+
+pub length-kept : (s : List ℕ) (i n : ℕ) → length (kept s i n) ≡ min n (length s) - i
+length-kept s i n = length-drop i (take n s) ∙ ap (λ (m : ℕ). m - i) (length-take n s)
+
+pub kept-none : (s : List ℕ) (i n : ℕ) → min n (length s) ≤ i → kept s i n ≡ []
+kept-none s i n h = drop-of-length-le (take n s) {i = i} (rw length-take h)
+
+-- the octet that is moved next has not been overwritten
+pub kept-next : (s : List ℕ) (u n i : ℕ) → i < length (kept s u n)
+    → set (take i (kept s u n) ++ drop i s) i (getD (take i (kept s u n) ++ drop i s) (u + i) 0) ≡ take (i + 1) (kept s u n) ++ drop (i + 1) s
+kept-next s u n i h =
+    let k = kept s u n in
+    let l = length-kept s u n in
+    let t : length (take i k) ≡ i = length-take-le i k (omega arith) in
+    let e : u + i ≡ length (take i k) + u = omega arith in
+    let q : getD (take i k ++ drop i s) (u + i) 0 ≡ getD k i 0 =
+        ap (λ (m : ℕ). getD (take i k ++ drop i s) m 0) e
+        ∙ getD-append-add (take i k) (drop i s) u 0
+        ∙ getD-drop i s u 0
+        ∙ ap (λ (m : ℕ). getD s m 0) (add-comm i u)
+        ∙ sym (getD-take n s (u + i) 0 (omega arith))
+        ∙ sym (getD-drop u (take n s) i 0) in
+    ap (set (take i k ++ drop i s) i) q ∙ front-next s k i (omega arith) h
+
+pub kept-all : (s : List ℕ) (u n i : ℕ) → i ≡ length (kept s u n) → take i (kept s u n) ++ drop i s ≡ stored s 0 (kept s u n)
+kept-all s u n i e =
+    let l = length-kept s u n in
+    front-all s (kept s u n) i (sym e) ∙ rw e (sym (stored-front s (kept s u n) (omega arith)))
+
+pub stored-none : {s k : List ℕ} → k ≡ [] → stored s 0 k ≡ s
+stored-none {s} {k} e = ap (stored s 0) e ∙ stored-front s [] (omega arith)
+
+-- what was kept fits into the block
+pub kept-within : (s : List ℕ) (u n : ℕ) {r : ℕ} {e : List ℕ} → r ≡ length (kept s u n) → e ≡ stored s 0 (kept s u n) → r ≤ length e
+kept-within s u n {r} {e} q b = omega (arith, q, length-kept s u n, ap length b, length-stored s 0 (kept s u n))

@@ -1,5 +1,5 @@
 -- Laws of the run, and of its turns.
 pub mod Laws
-mod Blocks
+pub mod Blocks
 mod Turns
 mod Words

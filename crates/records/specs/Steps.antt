@@ -11,6 +11,7 @@
 --   Ran b s d p e           == from the state b, records of the input s were taken: what they print stands in the first octets of the buffer that held d,
 --                              which then holds e, its other octets as they were; and whatever follows s, the run is that and then the run from p
 --   Stopped s d p           == whether the run had to stop at p, with the input s and a buffer of the length of d
+--   kept s i n              == the octets from place i up to place n of s
 use Prim.Native.Nat.{ℕ, _+_, _-_, _≤_}
 use mathlib.Core.Path.{_≡_}
 use mathlib.Core.Bool.{Bool, true, false, _||_}
@@ -62,3 +63,6 @@ pub record Ran (b : Bench) (s d : List ℕ) (p : Progress) (e : List ℕ) : Type
 
 abbrev pub Stopped : List ℕ → List ℕ → Progress → Bool
 Stopped s d p = stopped (p .bench) (drop (p .used) s) (length d - p .wrote)
+
+abbrev pub kept : List ℕ → ℕ → ℕ → List ℕ
+kept s i n = drop i (take n s)

@@ -5,8 +5,9 @@ use frames::Frame;
 use table::Table;
 ghost use mathlib.Core.Path.{_≡_};
 ghost use mathlib.Core.Bool.{true};
-ghost use Prim.Native.Nat.{_+_, _≤_, _/_};
+ghost use Prim.Native.Nat.{_+_, _≤_, _/_, min};
 ghost use lib.ListN.{length, take};
+ghost use Rattle.octets.specs.Octets.{stored};
 ghost use Rattle.table.specs.Table.{WellFormed};
 ghost use Rattle.lines.specs.Lines.{Put};
 ghost use Rattle.records.specs.Records.{
@@ -25,7 +26,7 @@ ghost use Rattle.records.specs.Records.{
   first,
   endOf,
 };
-ghost use Rattle.records.specs.Steps.{Written, Stepped, Advanced, Ran, Stopped};
+ghost use Rattle.records.specs.Steps.{Written, Stepped, Advanced, Ran, Stopped, kept};
 
 // Where a run stands: no record was taken, records are carried out, nothing more is looked at.
 pub enum Phase {
@@ -193,8 +194,8 @@ fn addresses_in(s: &[u8]) -> [u32; 64]
     ready
 }
 
-// Whether a run has ended.
-fn ended(b: Bench) -> bool
+// Whether a run has ended: nothing more is looked at.
+pub fn ended(b: Bench) -> bool
     ensures { λ r. ⌜ r ≡ hasEnded b ⌝ }
 {
     let phase = b.phase;
@@ -355,4 +356,33 @@ pub fn process(b: Bench, input: &[u8], out: &mut [u8]) -> Progress
         }
         p = next;
     }
+}
+
+// The smaller of two numbers.
+fn least(a: usize, b: usize) -> usize
+    ensures { λ r. ⌜ r ≡ min a b ⌝ }
+{
+    if a < b {
+        return a;
+    }
+    b
+}
+
+// Moves the octets of a block that were not used to its front: those from place `used` up to place `filled`, where a place past the end counts as
+// the end. The other places stay as they are. Answers how many octets were moved.
+pub fn keep(block: &mut [u8], used: usize, filled: usize) -> usize
+    ensures count { λ r. ⌜ r ≡ length (kept (now (block .entry)) used filled) ⌝ }
+    ensures moved { λ _. ⌜ now (block .exit) ≡ stored (now (block .entry)) 0 (kept (now (block .entry)) used filled) ⌝ }
+{
+    let end = least(filled, block.len());
+    if end <= used {
+        return 0;
+    }
+    let n = end - used;
+    let mut i = 0;
+    while i < n {
+        block[i] = block[used + i];
+        i += 1;
+    }
+    n
 }
