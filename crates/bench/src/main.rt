@@ -30,10 +30,18 @@ fn read_more(b: Bench, block: &mut [u8], filled: usize, out: &mut [u8]) -> Work
     let more = io::count(got, &block[filled..]);
     if more == 0 {
         end(b, &block[..filled], out);
-        return Work { bench: b, filled: filled, going: false };
+        return Work {
+            bench: b,
+            filled: filled,
+            going: false,
+        };
     }
     let sum = filled + more;
-    Work { bench: b, filled: sum, going: true }
+    Work {
+        bench: b,
+        filled: sum,
+        going: true,
+    }
 }
 
 // One turn: the records that are whole are carried out, and their lines are written at once; where there was none, more is read.
@@ -48,13 +56,25 @@ fn turn(b: Bench, block: &mut [u8], filled: usize, out: &mut [u8]) -> Work
     let is_written = io::write_all(STDOUT_FILENO, &out[..wrote]);
     let left = records::keep(block, used, filled);
     if !is_written {
-        return Work { bench: bench, filled: left, going: false };
+        return Work {
+            bench: bench,
+            filled: left,
+            going: false,
+        };
     }
     if records::ended(bench) {
-        return Work { bench: bench, filled: left, going: false };
+        return Work {
+            bench: bench,
+            filled: left,
+            going: false,
+        };
     }
     if used > 0 {
-        return Work { bench: bench, filled: left, going: true };
+        return Work {
+            bench: bench,
+            filled: left,
+            going: true,
+        };
     }
     read_more(bench, block, left, out)
 }

@@ -152,12 +152,12 @@ kept-next s u n i h =
     let t : length (take i k) ≡ i = length-take-le i k (omega arith) in
     let e : u + i ≡ length (take i k) + u = omega arith in
     let q : getD (take i k ++ drop i s) (u + i) 0 ≡ getD k i 0 =
-        ap (λ (m : ℕ). getD (take i k ++ drop i s) m 0) e
-        ∙ getD-append-add (take i k) (drop i s) u 0
-        ∙ getD-drop i s u 0
-        ∙ ap (λ (m : ℕ). getD s m 0) (add-comm i u)
-        ∙ sym (getD-take n s (u + i) 0 (omega arith))
-        ∙ sym (getD-drop u (take n s) i 0) in
+    ap (λ (m : ℕ). getD (take i k ++ drop i s) m 0) e
+    ∙ getD-append-add (take i k) (drop i s) u 0
+    ∙ getD-drop i s u 0
+    ∙ ap (λ (m : ℕ). getD s m 0) (add-comm i u)
+    ∙ sym (getD-take n s (u + i) 0 (omega arith))
+    ∙ sym (getD-drop u (take n s) i 0) in
     ap (set (take i k ++ drop i s) i) q ∙ front-next s k i (omega arith) h
 
 pub kept-all : (s : List ℕ) (u n i : ℕ) → i ≡ length (kept s u n) → take i (kept s u n) ++ drop i s ≡ stored s 0 (kept s u n)

@@ -311,28 +311,52 @@ fn advance(b: Bench, input: &[u8], used: usize, out: &mut [u8], wrote: usize) ->
 {
     let room = out.len() - wrote;
     if room < LINE_ROOM {
-        return Progress { bench: b, used: used, wrote: wrote };
+        return Progress {
+            bench: b,
+            used: used,
+            wrote: wrote,
+        };
     }
     if ended(b) {
-        return Progress { bench: b, used: used, wrote: wrote };
+        return Progress {
+            bench: b,
+            used: used,
+            wrote: wrote,
+        };
     }
     let frame = frames::frame_at(input, used);
     match frame {
-        Frame::Nothing => Progress { bench: b, used: used, wrote: wrote },
-        Frame::Cut => Progress { bench: b, used: used, wrote: wrote },
+        Frame::Nothing => Progress {
+            bench: b,
+            used: used,
+            wrote: wrote,
+        },
+        Frame::Cut => Progress {
+            bench: b,
+            used: used,
+            wrote: wrote,
+        },
         Frame::Bad => {
             let t = b.table;
             let step = refuse(t, out, wrote);
             let next = step.bench;
             let end = step.at;
-            Progress { bench: next, used: input.len(), wrote: end }
+            Progress {
+                bench: next,
+                used: input.len(),
+                wrote: end,
+            }
         }
         Frame::Whole { kind, start, len } => {
             let after = start + len;
             let step = carry_out(b, kind, &input[start..after], out, wrote);
             let next = step.bench;
             let end = step.at;
-            Progress { bench: next, used: after, wrote: end }
+            Progress {
+                bench: next,
+                used: after,
+                wrote: end,
+            }
         }
     }
 }
@@ -345,7 +369,11 @@ pub fn process(b: Bench, input: &[u8], out: &mut [u8]) -> Progress
     ensures run { λ r. ⌜ Ran b (now (input .entry)) (now (out .entry)) r (now (out .exit)) ⌝ }
     ensures stopped { λ r. ⌜ Stopped (now (input .entry)) (now (out .entry)) r ≡ true ⌝ }
 {
-    let mut p = Progress { bench: b, used: 0, wrote: 0 };
+    let mut p = Progress {
+        bench: b,
+        used: 0,
+        wrote: 0,
+    };
     loop {
         let bench = p.bench;
         let used = p.used;
