@@ -4,7 +4,7 @@ use election::Answer;
 use frames::Frame;
 use table::Table;
 ghost use mathlib.Core.Path.{_≡_};
-ghost use mathlib.Core.Bool.{true};
+ghost use mathlib.Core.Bool.{true, false};
 ghost use Prim.Native.Nat.{_+_, _≤_, _/_, min};
 ghost use lib.ListN.{length, take};
 ghost use Rattle.octets.specs.Octets.{stored};
@@ -303,38 +303,22 @@ fn carry_out(b: Bench, kind: u8, payload: &[u8], out: &mut [u8], at: usize) -> S
     }
 }
 
-// One record, if there is room for its line: the state after it, and the places after it and after its line. Where the run has ended, or the room is
-// too little, or the octets from place `used` on hold no whole record, nothing is done.
-fn advance(b: Bench, input: &[u8], used: usize, out: &mut [u8], wrote: usize) -> Progress
-    requires { ⌜ (used ≤ length (now input)) × (wrote ≤ length (now out)) × WellFormed (b .table) ⌝ }
+// One record at place `used` of the input, or none, where the octets from there on hold no whole record.
+fn take_record(b: Bench, input: &[u8], used: usize, out: &mut [u8], wrote: usize) -> Progress
+    requires { ⌜ (used ≤ length (now input)) × (wrote + 40 ≤ length (now out)) × (hasEnded b ≡ false) × WellFormed (b .table) ⌝ }
     ensures { λ r. ⌜ Advanced b (now (input .entry)) used (now (out .entry)) wrote r (now (out .exit)) ⌝ }
 {
-    let room = out.len() - wrote;
-    if room < LINE_ROOM {
-        return Progress {
-            bench: b,
-            used: used,
-            wrote: wrote,
-        };
-    }
-    if ended(b) {
-        return Progress {
-            bench: b,
-            used: used,
-            wrote: wrote,
-        };
-    }
     let frame = frames::frame_at(input, used);
     match frame {
         Frame::Nothing => Progress {
             bench: b,
-            used: used,
-            wrote: wrote,
+            used,
+            wrote,
         },
         Frame::Cut => Progress {
             bench: b,
-            used: used,
-            wrote: wrote,
+            used,
+            wrote,
         },
         Frame::Bad => {
             let t = b.table;
@@ -359,6 +343,29 @@ fn advance(b: Bench, input: &[u8], used: usize, out: &mut [u8], wrote: usize) ->
             }
         }
     }
+}
+
+// One record, or none, where the run has ended or the room for a line is too little.
+fn advance(b: Bench, input: &[u8], used: usize, out: &mut [u8], wrote: usize) -> Progress
+    requires { ⌜ (used ≤ length (now input)) × (wrote ≤ length (now out)) × WellFormed (b .table) ⌝ }
+    ensures { λ r. ⌜ Advanced b (now (input .entry)) used (now (out .entry)) wrote r (now (out .exit)) ⌝ }
+{
+    let room = out.len() - wrote;
+    if room < LINE_ROOM {
+        return Progress {
+            bench: b,
+            used,
+            wrote,
+        };
+    }
+    if ended(b) {
+        return Progress {
+            bench: b,
+            used,
+            wrote,
+        };
+    }
+    take_record(b, input, used, out, wrote)
 }
 
 // Takes the records of a block of input, as far as they are whole and their lines find room: the first `used` octets of the input are done with, and what
