@@ -3,22 +3,23 @@ use Prim.Native.Nat.{ℕ, _+_, _-_, _≤_, _<_, min}
 use native.Mathlib.Nat.{le-refl, add-comm}
 use native.Mathlib.Omega.{arith}
 use mathlib.Core.Path.{_≡_, refl, ap, _∙_, sym, subst}
-use mathlib.Core.Bool.{Bool, true, false, _||_}
+use mathlib.Core.Bool.{Bool, true, false, _||_, false≢true}
 use mathlib.Core.List.{List, [], _++_, append-assoc, append-nil}
 use lib.ListN.{length, take, drop, getD, set, length-append, length-drop, length-take, drop-of-length-le}
 use lib.Seq.{take-at, drop-at, drop-drop, length-take-le, getD-append-add, getD-drop, getD-take}
+use lib.Dec.{ltb}
 use borrow.Author.Tests.{lt-ltb}
 use Rattle.octets.specs.Octets.{stored}
 use Rattle.octets.proofs.Laws.{stored-fits, stored-front, length-stored, front-next, front-all}
 use Rattle.table.specs.Table.{WellFormed}
-use Rattle.frames.specs.Frames.{nothing, bad, cut, front}
+use Rattle.frames.specs.Frames.{Front, nothing, bad, cut, whole, front}
 use Rattle.frames.proofs.Laws.{Found}
 use Rattle.records.specs.declared.Bench.{Bench}
 use Rattle.records.specs.declared.Step.{Step}
 use Rattle.records.specs.declared.Progress.{Progress}
-use Rattle.records.specs.Records.{refused, badLine, turn, isEnd, hasEnded, runFrom}
+use Rattle.records.specs.Records.{refused, badLine, turn, isEnd, hasEnded, runFrom, endOf}
 use Rattle.records.specs.Steps.{Written, Stepped, isPart, stopped, Advanced, Ran, Stopped, kept}
-use Rattle.records.proofs.Laws.{run-ended, run-found, run-spoilt}
+use Rattle.records.proofs.Laws.{run-ended, run-found, run-spoilt, end-ended, run-end-nothing, run-end-cut}
 use Rattle.records.proofs.Turns.{written-none}
 
 -- ---- octets written at a place: those before it and they themselves, and those after
@@ -171,3 +172,22 @@ stored-none {s} {k} e = ap (stored s 0) e ∙ stored-front s [] (omega arith)
 -- what was kept fits into the block
 pub kept-within : (s : List ℕ) (u n : ℕ) {r : ℕ} {e : List ℕ} → r ≡ length (kept s u n) → e ≡ stored s 0 (kept s u n) → r ≤ length e
 kept-within s u n {r} {e} q b = omega (arith, q, length-kept s u n, ap length b, length-stored s 0 (kept s u n))
+
+-- ---- where the input ends
+
+-- what may still become a record prints what `endOf` says if nothing follows
+end-part : (b : Bench) (s : List ℕ) (f : Front) → hasEnded b ≡ false → front s ≡ f → isPart f ≡ true → runFrom b s ≡ endOf b s
+unfolding isPart
+end-part b s nothing h e p = run-end-nothing b s e
+end-part b s bad h e p = absurd (false≢true p)
+end-part b s cut h e p = run-end-cut b s h e
+end-part b s (whole k l r) h e p = absurd (false≢true p)
+
+-- where no record can be taken although there is room, the run prints what `endOf` says
+pub end-stopped : (b : Bench) (s : List ℕ) → stopped b s 40 ≡ true → runFrom b s ≡ endOf b s
+unfolding stopped
+end-stopped b s = by-end (hasEnded b) refl
+  where
+    by-end : (t : Bool) → hasEnded b ≡ t → (t || (ltb 40 40 || isPart (front s))) ≡ true → runFrom b s ≡ endOf b s
+    by-end true h p = run-ended b s h ∙ sym (end-ended b s h)
+    by-end false h p = end-part b s (front s) h refl p

@@ -22,7 +22,7 @@ use Rattle.records.specs.declared.Phase.{Phase}
 use Rattle.records.specs.declared.Phase.the-variants.{Start, Running, Ended}
 use Rattle.records.specs.declared.Bench.{Bench}
 use Rattle.records.specs.declared.Step.{Step}
-use Rattle.records.specs.Records.{Turn, line, running, ended, refused, badLine, queryLine, textTurn, announceTurn, withdrawTurn, queryTurn, laterTurn, wordsIn, turnIn, turn, first}
+use Rattle.records.specs.Records.{Turn, line, running, ended, refused, badLine, queryLine, textTurn, announceTurn, withdrawTurn, queryTurn, laterTurn, wordsIn, turnIn, turn, first, runFrom, runOf}
 use Rattle.records.specs.Steps.{Written, Stepped}
 use Rattle.records.proofs.Laws.{written-as}
 
@@ -126,6 +126,10 @@ stepped-as {d} {at} {u} {v} {r} {e} s q = subst (λ (x : Turn). Stepped d at x r
 pub started : (x : Change) → x ≡ freshTable (replicate 10 0) → _≡_ {A = Bench} (record { phase = Start; table = x .table }) first
 unfolding first
 started x e = rw e
+
+pub run-first : {b : Bench} → b ≡ first → (s : List ℕ) → runFrom b s ≡ runOf s
+unfolding runOf
+run-first e s = ap (λ (b : Bench). runFrom b s) e
 
 -- ---- which turn a record's is, by phase
 

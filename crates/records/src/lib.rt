@@ -5,7 +5,8 @@ use frames::Frame;
 use table::Table;
 ghost use mathlib.Core.Path.{_≡_};
 ghost use mathlib.Core.Bool.{true, false};
-ghost use Prim.Native.Nat.{_+_, _≤_, _/_, min};
+ghost use Prim.Native.Nat.{ℕ, _+_, _≤_, _/_, min};
+ghost use mathlib.Core.List.{List};
 ghost use lib.ListN.{length, take};
 ghost use Rattle.octets.specs.Octets.{stored};
 ghost use Rattle.table.specs.Table.{WellFormed};
@@ -25,8 +26,10 @@ ghost use Rattle.records.specs.Records.{
   hasEnded,
   first,
   endOf,
+  runFrom,
+  runOf,
 };
-ghost use Rattle.records.specs.Steps.{Written, Stepped, Advanced, Ran, Stopped, kept};
+ghost use Rattle.records.specs.Steps.{Written, Stepped, Advanced, Ran, stopped, Stopped, kept};
 
 // Where a run stands: no record was taken, records are carried out, nothing more is looked at.
 pub enum Phase {
@@ -206,9 +209,10 @@ pub fn ended(b: Bench) -> bool
     }
 }
 
-// The state in which a run starts.
+// The state in which a run starts: from it, the run on an input is the whole output for that input.
 pub fn start() -> Bench
     ensures answer { λ r. ⌜ r ≡ first ⌝ }
+    ensures run { λ r. ⌜ ((s : List ℕ) → runFrom r s ≡ runOf s) ⌝ }
     ensures kept { λ r. ⌜ WellFormed (r .table) ⌝ }
 {
     let zeros = [0u8; 10];
@@ -221,9 +225,11 @@ pub fn start() -> Bench
 }
 
 // Puts what is printed where the input ends with the octets `rest`, which are no whole record: `x 16` if there are any and the run has not
-// ended. Answers how many octets that is; where they do not fit, the buffer stays as it is and the answer is 0.
+// ended. Answers how many octets that is; where they do not fit, the buffer stays as it is and the answer is 0. Where `process` had to stop with room
+// left, this is what the run on those octets prints.
 pub fn finish(b: Bench, rest: &[u8], out: &mut [u8]) -> usize
-    ensures { λ r. ⌜ Put (now (out .entry)) 0 (endOf b (now (rest .entry))) r (now (out .exit)) ⌝ }
+    ensures answer { λ r. ⌜ Put (now (out .entry)) 0 (endOf b (now (rest .entry))) r (now (out .exit)) ⌝ }
+    ensures run { λ r. ⌜ (stopped b (now (rest .entry)) 40 ≡ true → runFrom b (now (rest .entry)) ≡ endOf b (now (rest .entry))) ⌝ }
 {
     if ended(b) {
         return 0;

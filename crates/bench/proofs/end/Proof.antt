@@ -12,7 +12,7 @@ finish-requires c κs = search needs
 
 slice-reshare-prefix-write-all : tie.Need-slice-reshare-prefix-write-all
 slice-reshare-prefix-write-all c =
-    let p = c .before .before .finish .ensures in
+    let p = c .before .before .finish .ensures .0 in
     omega (arith, put-within p (omega arith), put-length p)
 
 slice-aggregate-write-all : tie.Need-slice-aggregate-write-all

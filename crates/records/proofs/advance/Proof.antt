@@ -13,7 +13,7 @@ returns : tie.Need-returns
 returns c =
     let s = c .before .before .before in
     let a = s .args in
-    advanced-none (a .b) (a .input .now) (a .used) (a .out .now) (a .wrote) (s .pre .0) (s .pre .1) (s .pre .2) (stopped-room (a .b) _ _ (c .if1 .taken))
+    advanced-none (a .b) (a .input .now) (a .used) (a .out .now) (a .wrote) (s .pre .0) (s .pre .1) (s .pre .2) (stopped-room (a .b) _ _ (omega (arith, c .if1 .taken)))
 
 ended-requires : tie.Need-ended-requires
 ended-requires c κs = search needs

@@ -2,6 +2,7 @@
 use mathlib.Core.Path.{sym, _∙_}
 use Rattle.lines.proofs.Laws.{put-as}
 use Rattle.records.proofs.Laws.{put-none, end-ended, end-empty, end-left}
+use Rattle.records.proofs.Blocks.{end-stopped}
 use borrow.Author.Needs.{needs}
 use Rattle.records.proofs.finish.Statement.{statement}
 use Rattle.records.proofs.finish.Tie as tie
@@ -13,13 +14,13 @@ returns : tie.Need-returns
 returns c =
     let e = c .before in
     let a = e .before .before .before .args in
-    put-as (put-none (a .out .now)) (sym (end-ended (a .b) (a .rest .now) (sym (e .ended .ensures) ∙ c .if1 .taken)))
+    (put-as (put-none (a .out .now)) (sym (end-ended (a .b) (a .rest .now) (sym (e .ended .ensures) ∙ c .if1 .taken))), end-stopped (a .b) (a .rest .now))
 
 returns-2 : tie.Need-returns-2
 returns-2 c =
     let e = c .before .before in
     let a = e .before .before .before .args in
-    put-as (put-none (a .out .now)) (sym (end-empty (a .b) (a .rest .now) (c .if2 .taken)))
+    (put-as (put-none (a .out .now)) (sym (end-empty (a .b) (a .rest .now) (c .if2 .taken))), end-stopped (a .b) (a .rest .now))
 
 slice-aggregate-put-run : tie.Need-slice-aggregate-put-run
 slice-aggregate-put-run c = search needs
@@ -36,7 +37,7 @@ returns-3 c =
     let t = p .before .before .before in
     let e = t .before .before in
     let a = e .before .before .before .args in
-    put-as (p .put-run .ensures) (sym (end-left (a .b) (a .rest .now) (sym (e .ended .ensures) ∙ t .before .if1 .left) (t .if2 .left)))
+    (put-as (p .put-run .ensures) (sym (end-left (a .b) (a .rest .now) (sym (e .ended .ensures) ∙ t .before .if1 .left) (t .if2 .left))), end-stopped (a .b) (a .rest .now))
 
 pub finish-spec : {M : Type 1} → statement M
 finish-spec =

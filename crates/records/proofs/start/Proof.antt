@@ -1,5 +1,5 @@
 -- `start` meets its contract: an empty table, and no record taken. Assumes nothing.
-use Rattle.records.proofs.Turns.{started}
+use Rattle.records.proofs.Turns.{started, run-first}
 use borrow.Author.Needs.{needs}
 use Rattle.records.proofs.start.Statement.{statement}
 use Rattle.records.proofs.start.Tie as tie
@@ -11,7 +11,9 @@ fresh-requires : tie.Need-fresh-requires
 fresh-requires c κs = search needs
 
 returns : tie.Need-returns
-returns c = (started (c .before .fresh .result) (c .before .fresh .ensures .0), c .before .fresh .ensures .1)
+returns c =
+    let e = started (c .before .fresh .result) (c .before .fresh .ensures .0) in
+    (e, (run-first e, c .before .fresh .ensures .1))
 
 pub start-spec : {M : Type 1} → statement M
 start-spec = tie.close (tie.spec slice-aggregate-fresh fresh-requires returns)
