@@ -107,9 +107,13 @@ module _ (s : List ℕ) where
     unfolding chosen
     list-none e = list-read [] e
 
-    pub list-first : (c : List ℕ) (cs : List (List ℕ)) → electionsFrom s 0 ≡ c ∷ cs → record { number = 0; election = readCommunity c } ≡ readList s
+    pub list-one : (c : List ℕ) → electionsFrom s 0 ≡ c ∷ [] → record { number = 0; election = readCommunity c } ≡ readList s
     unfolding chosen
-    list-first c cs e = list-read (c ∷ cs) e
+    list-one c e = list-read (c ∷ []) e
+
+    pub list-several : (c d : List ℕ) (cs : List (List ℕ)) → electionsFrom s 0 ≡ c ∷ d ∷ cs → record { number = 0; election = noElection } ≡ readList s
+    unfolding chosen
+    list-several c d cs e = list-read (c ∷ d ∷ cs) e
 
 -- a list is refused exactly if its length is wrong, and its number tells which it is
 answer-of : (s : List ℕ) (b : Bool) → listFits s ≡ b → readList s ≡ cond b (record { number = 0; election = electionIn s }) (record { number = 7; election = noElection })
@@ -247,7 +251,8 @@ right-under a ac d p h = (h, sym (under-again a ac d p))
 right-chosen : (cs : List (List ℕ)) → Right (chosen cs)
 unfolding chosen readCommunity
 right-chosen [] = right-none
-right-chosen (c ∷ cs) = right-under (getD c 2 0 % 32) _ _ _ (omega arith)
+right-chosen (c ∷ []) = right-under (getD c 2 0 % 32) _ _ _ (omega arith)
+right-chosen (c ∷ d ∷ cs) = right-none
 
 pub election-right : (s : List ℕ) → Right (electionIn s)
 unfolding electionIn

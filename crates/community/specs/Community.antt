@@ -46,7 +46,7 @@ unfoldable pub communityOctets : Election → List ℕ
 communityOctets e =
     6 ∷ 6 ∷ e .algorithm ∷ (cond (e .dp) 128 0 + cond (e .«ac_df») 64 0) ∷ 0 ∷ 0 ∷ octetsOf 2 (e .preference)
 
--- A LIST: communities that do not start 06 06 are skipped; of several election communities the first is read
+-- A LIST: communities that do not start 06 06 are skipped; several election communities count as none, be they alike (document 02, M-101)
 unfoldable pub isElection : List ℕ → Bool
 isElection s = eqb (getD s 0 0) 6 && eqb (getD s 1 0) 6
 
@@ -60,7 +60,8 @@ elections (c ∷ cs) = cond (isElection c) (c ∷ elections cs) (elections cs)
 
 unfoldable pub chosen : List (List ℕ) → Election
 chosen [] = noElection
-chosen (c ∷ cs) = readCommunity c
+chosen (c ∷ []) = readCommunity c
+chosen (c ∷ d ∷ cs) = noElection
 
 -- a multiple of 8 octets, 0 to 256
 unfoldable pub listFits : List ℕ → Bool

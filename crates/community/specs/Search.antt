@@ -1,7 +1,7 @@
 -- What the search in a list of communities promises to the reader of the list. No public promise cites it.
 --   electionsFrom s at   == the election communities of the list s from octet `at` on
 --   Found s at r         == r is where the first of them starts
-use Prim.Native.Nat.{ℕ, _+_, _-_, _/_, _≤_}
+use Prim.Native.Nat.{ℕ, _+_, _-_, _/_, _%_, _≤_}
 use mathlib.Core.Path.{_≡_}
 use mathlib.Core.List.{List, [], _∷_}
 use lib.ListN.{length, take, drop}
@@ -13,5 +13,5 @@ unfoldable pub electionsFrom : List ℕ → ℕ → List (List ℕ)
 electionsFrom s at = elections (communities ((length s - at) / 8) (drop at s))
 
 abbrev pub Found : List ℕ → ℕ → Place → Type 0
-Found s at (At i) = (i + 8 ≤ length s) × (electionsFrom s at ≡ take 8 (drop i s) ∷ electionsFrom s (i + 8))
+Found s at (At i) = (i + 8 ≤ length s) × (i % 8 ≡ 0) × (electionsFrom s at ≡ take 8 (drop i s) ∷ electionsFrom s (i + 8))
 Found s at Nowhere = electionsFrom s at ≡ []

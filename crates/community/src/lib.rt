@@ -84,8 +84,8 @@ fn find(s: &[u8], from: usize) -> Place
     Place::Nowhere
 }
 
-// Reads a list of communities: 7 for a length over 256 or not a multiple of 8. Communities that do not start 06 06 are skipped, of
-// several election communities the first is read, and none at all means algorithm 0 without capabilities.
+// Reads a list of communities: 7 for a length over 256 or not a multiple of 8. Communities that do not start 06 06 are skipped; several
+// election communities count as none, alike or not, and none means algorithm 0 without capabilities.
 pub fn read_list(s: &[u8]) -> ListRead
     ensures { λ r. ⌜ r ≡ readList (now (s .entry)) ⌝ }
 {
@@ -103,6 +103,13 @@ pub fn read_list(s: &[u8]) -> ListRead
     }
     let first = find(s, 0);
     let Place::At(at) = first else {
+        return ListRead {
+            number: 0,
+            election: NO_ELECTION,
+        };
+    };
+    let second = find(s, at + 8);
+    let Place::Nowhere = second else {
         return ListRead {
             number: 0,
             election: NO_ELECTION,

@@ -13,6 +13,7 @@ pub fn families() -> Vec<(&'static str, u64, Make)> {
         ("route-octet", ROUTE_OCTET_COUNT, route_octet),
         ("route-pair", ROUTE_PAIR_COUNT, route_pair),
         ("community-octet", COMMUNITY_OCTET_COUNT, community_octet),
+        ("several", SEVERAL_COUNT, several),
         ("agreement", AGREEMENT_COUNT, agreement),
         ("sixty-four", SIXTY_FOUR_COUNT, sixty_four),
         ("body-length", BODY_LENGTH_COUNT, body_length),
@@ -198,6 +199,37 @@ fn community_octet(index: u64) -> Vec<u8> {
             octets.extend(record::query(6, ready));
             octets.extend(record::query(7, ready));
         }
+    }
+    octets
+}
+
+/// How many communities the lists of `several` have.
+const SEVERAL_LENGTH: u64 = 6;
+const SEVERAL_COUNT: u64 = (1 << SEVERAL_LENGTH) * 3;
+
+/// A list with election communities at every set of its places: alike, alike but for the
+/// preference, or each with an algorithm of its own. Beside it a router under algorithm 2, so that
+/// a list that says something else is told from one that says the same.
+fn several(index: u64) -> Vec<u8> {
+    let places = index % (1 << SEVERAL_LENGTH);
+    let kind = index >> SEVERAL_LENGTH;
+    let list = (0..SEVERAL_LENGTH).flat_map(|place| {
+        let mut one = match kind {
+            0 => record::community(2, false, true, 300),
+            1 => record::community(2, false, true, 300 + place as u16),
+            _ => record::community(place as u8 % 4, false, true, 300),
+        };
+        if places >> place & 1 == 0 {
+            one[1] = 0x05;
+        }
+        one
+    });
+    let mut octets = record::esi_record(&ESI);
+    let other = record::community(2, false, true, 200);
+    octets.extend(record::announcement(&ESI, ten(2), &other));
+    octets.extend(record::announcement(&ESI, ten(1), &list.collect::<Vec<u8>>()));
+    for tag in 1..4 {
+        octets.extend(record::query(tag, &[]));
     }
     octets
 }

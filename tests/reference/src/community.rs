@@ -1,4 +1,5 @@
-//! The DF Election Extended Community: 8 octets. Document 01, "The community".
+//! The DF Election Extended Community: 8 octets. Document 01, "The community", mended by document
+//! 02, M-101.
 //!
 //! 06, 06, an octet with the algorithm in its low five bits, two octets of capability bits,
 //! a reserved octet, two octets of preference, high first.
@@ -39,13 +40,19 @@ pub fn check_list_length(list: &[u8]) -> Result<(), Refusal> {
     Ok(())
 }
 
-/// Reads a list: the first election community in it, or the default if there is none.
+/// Reads a list: the election community in it, or the default if there is none. Several election
+/// communities count as none, identical ones too.
 pub fn read_list(list: &[u8]) -> Result<Community, Refusal> {
     check_list_length(list)?;
-    let first = list
+    let elections: Vec<&[u8]> = list
         .chunks_exact(COMMUNITY_LENGTH)
-        .find(|one| one[..2] == ELECTION_TYPE);
-    Ok(first.map(read_one).unwrap_or_default())
+        .filter(|one| one[..2] == ELECTION_TYPE)
+        .collect();
+    if elections.len() == 1 {
+        Ok(read_one(elections[0]))
+    } else {
+        Ok(Community::default())
+    }
 }
 
 /// Reads the 8 octets of one election community.

@@ -35,6 +35,7 @@ returns c =
     let s = now (turn .before .args .s) in
     let a = turn .loop .inv .0 in (
       omega arith,
+      a,
       turn .loop .inv .1 .1 ∙ from-hit s (turn .loop .at) m a (omega arith) (c .before .before .if1 .taken) (c .if2 .taken),
     )
 

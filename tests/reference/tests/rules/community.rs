@@ -83,13 +83,29 @@ fn the_length_of_a_list() {
 }
 
 #[test]
-fn the_first_election_community_is_read() {
+fn several_election_communities_count_as_none() {
     let first = community_octets(2, false, true, 11);
     let second = community_octets(3, true, false, 22);
-    let list = [&first[..], &second[..]].concat();
-    assert_eq!(read_list(&list), read_list(&first));
-    let list = [&second[..], &first[..]].concat();
-    assert_eq!(read_list(&list), read_list(&second));
+    let other = [6, 5, 2, 0xC0, 0, 0, 1, 0xF4];
+    for list in [
+        [&first[..], &second[..]].concat(),
+        [&second[..], &first[..]].concat(),
+        [&first[..], &first[..]].concat(),
+        [&first[..], &other[..], &first[..]].concat(),
+        [&first[..], &second[..], &first[..]].concat(),
+        first.repeat(32),
+    ] {
+        assert_eq!(read_list(&list), Ok(Community::default()));
+    }
+}
+
+#[test]
+fn a_wrong_length_is_told_before_several() {
+    let mut list = community_octets(2, false, true, 11).repeat(2);
+    list.push(6);
+    assert_eq!(read_list(&list), Err(Refusal::CommunityLength));
+    let list = community_octets(2, false, true, 11).repeat(33);
+    assert_eq!(read_list(&list), Err(Refusal::CommunityLength));
 }
 
 #[test]
