@@ -297,14 +297,43 @@ fn ties() {
     );
 }
 
-// Section 4.1 (f): half of the bandwidth is lost, and the preference goes from 500 to 100.
+// Section 4.1 (f): half of the bandwidth is lost, and the preference goes from 500 to 100. The sum is what the router takes as its
+// administrative preference; the link is mended, and the same step up gives 500 back.
 fn bandwidth() {
-    let t = with(first_segment(HIGHEST), 1, HIGHEST, 100, false);
+    let lost = bandwidth::add_step(500, -400);
+    show_number(b"4.1 (f): 500 lowered by 400", lost.preference as u64, 100);
+    let vacant = without(first_segment(HIGHEST), 1);
+    let sent = segment::returning(vacant, 0x0A000001, HIGHEST, lost.preference, false);
+    show_pair(
+        b"4.1 (f): vES1, Highest, PE1 sends",
+        sent.preference,
+        sent.dp,
+        100,
+        false,
+    );
+    let low = with(vacant, 1, HIGHEST, sent.preference, sent.dp);
     show_number(
         b"4.1 (f): vES1, Highest, PE1 lowered to 100",
-        elected(t, 1),
+        elected(low, 1),
         2,
     );
+    let mended = bandwidth::add_step(lost.preference, 400);
+    let high = with(low, 1, HIGHEST, mended.preference, false);
+    show_number(
+        b"4.1 (f): vES1, Highest, PE1 raised by 400",
+        elected(high, 1),
+        1,
+    );
+}
+
+// A step that stops short is not taken back by the same step up; one that is too long is refused.
+fn steps() {
+    let low = bandwidth::add_step(300, -400);
+    let again = bandwidth::add_step(low.preference, 400);
+    show_number(b"300 lowered by 400", low.preference as u64, 0);
+    show_number(b"and raised by 400", again.preference as u64, 400);
+    let long = bandwidth::add_step(500, -65536);
+    show_number(b"a step of -65536", long.number as u64, 19);
 }
 
 // Section 4.3: without DP, PE3 takes over when it comes back.
@@ -368,6 +397,7 @@ fn main() {
     maintenance();
     ties();
     bandwidth();
+    steps();
     revertive();
     non_revertive();
     other_algorithm();
