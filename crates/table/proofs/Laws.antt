@@ -1,13 +1,17 @@
 -- Laws of the table: that a well-formed table is the one that its identifier and its entries make, what the search finds, and which case of its
 -- definition each return of a call is. Assumes nothing.
-use Prim.Native.Nat.{ℕ, _+_, _≤_, _<_}
+use Prim.Native.Nat.{ℕ, _+_, _-_, _*_, _^_, _≤_, _<_}
+use native.Mathlib.Nat.{two-pow-succ, mul-add, add-mul, mul-le-mul-right}
 use native.Mathlib.Numerals.{add-one}
 use native.Mathlib.Omega.{arith}
 use mathlib.Core.Path.{_≡_, refl, ap, _∙_, sym}
-use mathlib.Core.Bool.{Bool}
+use mathlib.Core.Bool.{Bool, true, false}
 use mathlib.Core.List.{List, [], _∷_}
 use lib.ListN.{length, getD, take, drop, drop-of-length-le}
 use lib.Seq.{length-take-le, getD-take, drop-cons}
+use lib.Pow.{pow-mono}
+use lib.Dec.{leb}
+use borrow.Author.Tests.{leb-true, leb-false}
 use Rattle.keyed.specs.Keyed.{padded, rank}
 use Rattle.keyed.proofs.Keyed as keyed
 use Rattle.table.specs.Table.{keyOf, none, live, tableOf, WellFormed}
@@ -16,6 +20,23 @@ use Rattle.table.specs.declared.Entry.{Entry}
 use Rattle.table.specs.declared.Table.{Table}
 use Rattle.table.specs.declared.Found.{Found}
 use Rattle.table.specs.declared.Found.the-variants.{At, Missing}
+
+-- ---- a search that halves its range: after k looks a range of r places has r * 2^k at most 64
+
+pub halved : (r q k : ℕ) → q + q ≤ r → r * 2 ^ k ≤ 64 → q * 2 ^ (k + 1) ≤ 64
+halved r q k h l =
+    let e : q * 2 ^ (k + 1) ≡ q * 2 ^ k + q * 2 ^ k = rw (add-one, two-pow-succ) (mul-add q (2 ^ k) (2 ^ k)) in
+    omega (arith, e, add-mul q q (2 ^ k), mul-le-mul-right (2 ^ k) h, l)
+
+-- where a place is left to look at, at most six were looked at before
+pub few-looks : (r k : ℕ) → 0 < r → r * 2 ^ k ≤ 64 → k + 1 ≤ 7
+few-looks r k h l = go (leb k 6) refl
+  where
+    go : (b : Bool) → leb k 6 ≡ b → k + 1 ≤ 7
+    go true e = omega (arith, leb-true k 6 e)
+    go false e =
+        let n : 7 ≤ k = leb-false k 6 e in
+        absurd (omega (arith, pow-mono {i = 7} {j = k} n, mul-le-mul-right (2 ^ k) h, l))
 
 -- the table that holds a short list in order
 pub live-of : (i : List ℕ) (l : List Entry) → length l ≤ 64 → live (tableOf i l) ≡ l
@@ -53,6 +74,9 @@ module _ (t : Table) (w : WellFormed t) where
   pub look-more : (k i : ℕ) (d : Entry) → i < t .count → k < keyOf (getD (t .entries) i d) → rank keyOf k (live t) ≤ i
   look-more k i d h q =
       keyed.rank-below keyOf k (live t) i d (omega (arith, length-live)) (rw (at-live i d h) (omega (arith, q)))
+
+  pub whole-range : (t .count - 0) * 2 ^ 0 ≤ 64
+  whole-range = omega (arith, w .short)
 
   pub rank-count : (k : ℕ) → rank keyOf k (live t) ≤ t .count
   rank-count k = omega (arith, keyed.rank-le keyOf k (live t), length-live)

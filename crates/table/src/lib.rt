@@ -46,6 +46,12 @@ pub enum Found {
     Missing(usize),
 }
 
+// The answer of a lookup: where the address stands, and how many entries were compared with it.
+pub struct Lookup {
+    pub found: Found,
+    pub looks: u32,
+}
+
 const NONE: Entry = Entry {
     address: 0,
     algorithm: 0,
@@ -81,20 +87,27 @@ pub fn fresh(esi: &[u8]) -> Change
     }
 }
 
-// Where an address stands: the range is halved, and one look at an entry decides less, equal or greater.
-pub fn find(t: Table, address: Address) -> Found
+// Looks an address up: where it stands, and at how many entries the search looked. The range is halved at each look, and one look at an entry
+// decides less, equal or greater, so seven looks are enough for 64 entries, found or not.
+pub fn search(t: Table, address: Address) -> Lookup
     requires { ⌜ WellFormed t ⌝ }
-    ensures { λ r. ⌜ r ≡ foundIn (addressKey address) (live t) ⌝ }
+    ensures found { λ r. ⌜ r .found ≡ foundIn (addressKey address) (live t) ⌝ }
+    ensures looks { λ r. ⌜ r .looks ≤ 7 ⌝ }
 {
     let mut lo = 0;
     let mut hi = t.count;
+    let mut looks = 0;
     while lo < hi {
         let mid = lo + (hi - lo) / 2;
         let e = t.entries[mid];
+        looks += 1;
         let order = address::compare(e.address, address);
         match order {
             Order::Equal => {
-                return Found::At(mid);
+                return Lookup {
+                    found: Found::At(mid),
+                    looks: looks,
+                };
             }
             Order::Less => {
                 lo = mid + 1;
@@ -104,7 +117,19 @@ pub fn find(t: Table, address: Address) -> Found
             }
         }
     }
-    Found::Missing(lo)
+    Lookup {
+        found: Found::Missing(lo),
+        looks: looks,
+    }
+}
+
+// Where an address stands. Every lookup in the table goes through here, and so looks at seven entries at most.
+pub fn find(t: Table, address: Address) -> Found
+    requires { ⌜ WellFormed t ⌝ }
+    ensures { λ r. ⌜ r ≡ foundIn (addressKey address) (live t) ⌝ }
+{
+    let r = search(t, address);
+    r.found
 }
 
 // One entry more: those from place `at` on move right, and the last falls off.
