@@ -107,13 +107,15 @@ module _ (s : List ℕ) where
     unfolding chosen
     list-none e = list-read [] e
 
-    pub list-one : (c : List ℕ) → electionsFrom s 0 ≡ c ∷ [] → record { number = 0; election = readCommunity c } ≡ readList s
-    unfolding chosen
-    list-one c e = list-read (c ∷ []) e
+    -- a first election community, and what stands from place n on, behind it
+    module _ (c : List ℕ) (n : ℕ) (e : electionsFrom s 0 ≡ c ∷ electionsFrom s n) where
+      pub list-one : electionsFrom s n ≡ [] → record { number = 0; election = readCommunity c } ≡ readList s
+      unfolding chosen
+      list-one f = list-read (c ∷ []) (e ∙ ap (c ∷_) f)
 
-    pub list-several : (c d : List ℕ) (cs : List (List ℕ)) → electionsFrom s 0 ≡ c ∷ d ∷ cs → record { number = 0; election = noElection } ≡ readList s
-    unfolding chosen
-    list-several c d cs e = list-read (c ∷ d ∷ cs) e
+      pub list-several : (d : List ℕ) (cs : List (List ℕ)) → electionsFrom s n ≡ d ∷ cs → record { number = 0; election = noElection } ≡ readList s
+      unfolding chosen
+      list-several d cs f = list-read (c ∷ d ∷ cs) (e ∙ ap (c ∷_) f)
 
 -- a list is refused exactly if its length is wrong, and its number tells which it is
 answer-of : (s : List ℕ) (b : Bool) → listFits s ≡ b → readList s ≡ cond b (record { number = 0; election = electionIn s }) (record { number = 7; election = noElection })

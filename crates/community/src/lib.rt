@@ -108,17 +108,18 @@ pub fn read_list(s: &[u8]) -> ListRead
             election: NO_ELECTION,
         };
     };
+    let election = read_at(s, at);
     let second = find(s, at + 8);
-    let Place::Nowhere = second else {
+    let Place::At(_) = second else {
         return ListRead {
             number: 0,
-            election: NO_ELECTION,
+            election: election,
         };
     };
-    let election = read_at(s, at);
+    let as_none = NO_ELECTION;
     ListRead {
         number: 0,
-        election: election,
+        election: as_none,
     }
 }
 

@@ -3,7 +3,6 @@ use Prim.Native.Nat.{_+_}
 use borrow.Author.Needs.{needs}
 use native.Mathlib.Omega.{arith}
 use mathlib.Core.Path.{_∙_, ap, subst}
-use mathlib.Core.List.{_∷_}
 use lib.ListN.{take, drop}
 use denote.Ref.{now}
 use Rattle.community.specs.Search.{electionsFrom, Found}
@@ -35,21 +34,25 @@ returns-3 c =
     let s = now (found .before .before .before .before .args .s) in
     list-none s (omega arith) (omega arith) (subst (λ (p : Place). Found s 0 p) (c .enum-told .given .1) (found .find .ensures))
 
-add-find : tie.Need-add-find
-add-find c =
+read-at-requires : tie.Need-read-at-requires
+read-at-requires c κs =
     let told = c .before in
     let found = told .before .before in
     let s = now (found .before .before .before .before .args .s) in
-    let f = subst (λ (p : Place). Found s 0 p) (told .first .given .1) (found .find .ensures) in
-    omega (arith, f .0)
+    subst (λ (p : Place). Found s 0 p) (told .first .given .1) (found .find .ensures) .0
+
+add-find : tie.Need-add-find
+add-find c =
+    let r = read-at-requires (c .before) (c .before .before .before .before .before .before .before .before .κs) in
+    omega (arith, r)
 
 find-requires-2 : tie.Need-find-requires-2
 find-requires-2 c κs =
-    let told = c .before in
+    let told = c .before .before in
     let found = told .before .before in
     let s = now (found .before .before .before .before .args .s) in
     let f = subst (λ (p : Place). Found s 0 p) (told .first .given .1) (found .find .ensures) in
-    (omega arith, omega (arith, f .1), f .0)
+    (omega arith, omega (arith, f .1), omega (arith, f .0))
 
 enum-told-2 : tie.Need-enum-told-2
 enum-told-2 c = search needs
@@ -60,36 +63,28 @@ enum-told-3 c = search needs
 returns-4 : tie.Need-returns-4
 returns-4 c =
     let second = c .before .before in
-    let told = second .before .before in
+    let told = second .before .before .before in
     let found = told .before .before in
     let s = now (found .before .before .before .before .args .s) in
     let i = told .first .given .0 .0 in
-    let j = c .enum-told3 .given .0 .0 in
     let f = subst (λ (p : Place). Found s 0 p) (told .first .given .1) (found .find .ensures) in
     let g = subst (λ (p : Place). Found s (i + 8) p) (c .enum-told3 .given .1) (second .find2 .ensures) in
-    list-several s (omega arith) (omega arith) (take 8 (drop i s)) (take 8 (drop j s)) (electionsFrom s (j + 8)) (f .2 ∙ ap (_∷_ (take 8 (drop i s))) (g .2))
-
-read-at-requires : tie.Need-read-at-requires
-read-at-requires c κs =
-    let told = c .before .before .before .before in
-    let found = told .before .before in
-    let s = now (found .before .before .before .before .args .s) in
-    subst (λ (p : Place). Found s 0 p) (told .first .given .1) (found .find .ensures) .0
-
-returns-5 : tie.Need-returns-5
-returns-5 c =
-    let none = c .before in
-    let second = none .before .before in
-    let told = second .before .before in
-    let found = told .before .before in
-    let s = now (found .before .before .before .before .args .s) in
-    let i = told .first .given .0 .0 in
-    let f = subst (λ (p : Place). Found s 0 p) (told .first .given .1) (found .find .ensures) in
-    let g = subst (λ (p : Place). Found s (i + 8) p) (none .enum-told2 .given .1) (second .find2 .ensures) in
-    ap accepted (c .read-at .ensures) ∙ list-one s (omega arith) (omega arith) (take 8 (drop i s)) (f .2 ∙ ap (_∷_ (take 8 (drop i s))) g)
+    ap accepted (second .before .read-at .ensures) ∙ list-one s (omega arith) (omega arith) (take 8 (drop i s)) (i + 8) (f .2) g
   where
     accepted : Election → ListRead
     accepted e = record { number = 0; election = e }
+
+returns-5 : tie.Need-returns-5
+returns-5 c =
+    let second = c .before .before in
+    let told = second .before .before .before in
+    let found = told .before .before in
+    let s = now (found .before .before .before .before .args .s) in
+    let i = told .first .given .0 .0 in
+    let j = c .enum-told2 .given .0 .0 in
+    let f = subst (λ (p : Place). Found s 0 p) (told .first .given .1) (found .find .ensures) in
+    let g = subst (λ (p : Place). Found s (i + 8) p) (c .enum-told2 .given .1) (second .find2 .ensures) in
+    list-several s (omega arith) (omega arith) (take 8 (drop i s)) (i + 8) (f .2) (take 8 (drop j s)) (electionsFrom s (j + 8)) (g .2)
 
 pub read-list-spec : {M : Type 1} → statement M
 read-list-spec =
@@ -101,10 +96,10 @@ read-list-spec =
     enum-known-first
     enum-told
     returns-3
+    read-at-requires
     add-find
     find-requires-2
     enum-told-2
     enum-told-3
     returns-4
-    read-at-requires
     returns-5)
