@@ -14,7 +14,7 @@ use Rattle.community.proofs.read_list.Statement.{statement}
 use Rattle.community.proofs.read_list.Tie as tie
 
 returns : tie.Need-returns
-returns c = list-long _ (c .if1 .taken)
+returns c = list-long _ (omega (arith, c .if1 .taken))
 
 returns-2 : tie.Need-returns-2
 returns-2 c = list-odd _ (c .if2 .taken)

@@ -7,10 +7,10 @@ use Rattle.community.proofs.write.Statement.{statement}
 use Rattle.community.proofs.write.Tie as tie
 
 returns : tie.Need-returns
-returns c = wrote-high _ _ _ _ _ (c .if1 .taken)
+returns c = wrote-high _ _ _ _ _ (omega (arith, c .if1 .taken))
 
 returns-2 : tie.Need-returns-2
-returns-2 c = wrote-short _ _ _ _ _ (c .before .if1 .left) (c .if2 .taken)
+returns-2 c = wrote-short _ _ _ _ _ (omega (arith, c .before .if1 .left)) (omega (arith, c .if2 .taken))
 
 under-requires : tie.Need-under-requires
 under-requires c κs = search needs
