@@ -1,0 +1,13 @@
+//! The bench program over a baseline: `baseline_bench array` or `baseline_bench list`.
+
+use benchmarks::{array, list, records};
+use std::io;
+
+fn main() -> io::Result<()> {
+    let (mut input, mut output) = (io::stdin().lock(), io::stdout().lock());
+    match std::env::args().nth(1).as_deref() {
+        Some("array") => records::run::<array::Table>(&mut input, &mut output),
+        Some("list") => records::run::<list::List>(&mut input, &mut output),
+        _ => Err(io::Error::other("baseline_bench: say array or list")),
+    }
+}

@@ -1,0 +1,222 @@
+//! The bench program over a baseline (document 01, "The bench program"), and the generator of a long run of records.
+//! Blocks of 64 KiB are read and written; a record that is cut by the end of a block is kept for the next.
+
+use crate::answer::Segment;
+use crate::random::Random;
+use crate::workload;
+use std::io::{self, Read, Write};
+
+const MARK: [u8; 2] = [0xD5, 0x4F];
+const HEADER: usize = 4;
+const BLOCK: usize = 1 << 16;
+const LONGEST_RECORD: usize = HEADER + 255;
+const LONGEST_LINE: usize = 40;
+
+/// Runs the bench program from input to output.
+pub fn run<T: Segment>(input: &mut impl Read, output: &mut impl Write) -> io::Result<()> {
+    let mut bench: Bench<T> = Bench {
+        table: None,
+        lines: Vec::with_capacity(BLOCK + LONGEST_LINE),
+    };
+    let mut buffer = vec![0; LONGEST_RECORD + BLOCK];
+    let mut held = 0;
+    loop {
+        let got = input.read(&mut buffer[held..held + BLOCK])?;
+        let end = held + got;
+        if got == 0 {
+            if held != 0 {
+                bench.bad();
+            }
+            return output.write_all(&bench.lines);
+        }
+        let mut at = 0;
+        while let Some(record) = whole_record(&buffer[at..end]) {
+            at += record.len();
+            if !bench.take(record) {
+                return output.write_all(&bench.lines);
+            }
+            if bench.lines.len() >= BLOCK {
+                output.write_all(&bench.lines)?;
+                bench.lines.clear();
+            }
+        }
+        buffer.copy_within(at..end, 0);
+        held = end - at;
+    }
+}
+
+/// The first record, if all of it is there. What cannot become a record is handed over as it is, to be refused.
+fn whole_record(octets: &[u8]) -> Option<&[u8]> {
+    if octets.len() < HEADER {
+        return None;
+    }
+    if octets[..2] != MARK {
+        return Some(&octets[..HEADER]);
+    }
+    octets.get(..HEADER + usize::from(octets[3]))
+}
+
+struct Bench<T> {
+    table: Option<T>,
+    lines: Vec<u8>,
+}
+
+impl<T: Segment> Bench<T> {
+    /// Takes a record; whether the run goes on after it.
+    fn take(&mut self, record: &[u8]) -> bool {
+        if record[..2] != MARK {
+            return self.bad();
+        }
+        let octets = &record[HEADER..];
+        let Some(table) = &mut self.table else {
+            return self.first(record[2], octets);
+        };
+        match record[2] {
+            1 if octets.len() >= 25 => {
+                let number = table.announce(&octets[..25], &octets[25..]);
+                self.line(b'a', number);
+                true
+            }
+            2 if octets.len() == 4 => {
+                let number = table.withdraw(word(octets));
+                self.line(b'w', number);
+                true
+            }
+            3 if !octets.is_empty() && octets.len().is_multiple_of(4) => {
+                let mut ready = [0; 64];
+                let n = octets.len() / 4 - 1;
+                for (place, four) in octets[4..].chunks_exact(4).enumerate() {
+                    ready[place] = word(four);
+                }
+                let answer = table.elect(word(octets), &ready[..n]);
+                if answer.number != 0 {
+                    self.line(b'q', answer.number);
+                    return true;
+                }
+                self.lines.extend_from_slice(b"q 0 ");
+                for (place, octet) in answer.address.to_be_bytes().into_iter().enumerate() {
+                    if place > 0 {
+                        self.lines.push(b'.');
+                    }
+                    self.decimal(octet);
+                }
+                self.lines.push(b' ');
+                self.decimal(answer.n as u8);
+                self.lines.push(b'\n');
+                true
+            }
+            _ => self.bad(),
+        }
+    }
+
+    /// The first record: the text of the identifier.
+    fn first(&mut self, kind: u8, text: &[u8]) -> bool {
+        if kind != 0 {
+            return self.bad();
+        }
+        let Some(esi) = esi_in(text) else {
+            self.line(b'p', 13);
+            return false;
+        };
+        let (number, table) = T::fresh(&esi);
+        self.line(b'p', number);
+        self.table = Some(table);
+        number == 0
+    }
+
+    fn bad(&mut self) -> bool {
+        self.line(b'x', 16);
+        false
+    }
+
+    fn line(&mut self, letter: u8, number: u8) {
+        self.lines.extend_from_slice(&[letter, b' ']);
+        self.decimal(number);
+        self.lines.push(b'\n');
+    }
+
+    fn decimal(&mut self, number: u8) {
+        if number >= 100 {
+            self.lines.push(b'0' + number / 100);
+        }
+        if number >= 10 {
+            self.lines.push(b'0' + number / 10 % 10);
+        }
+        self.lines.push(b'0' + number % 10);
+    }
+}
+
+fn word(octets: &[u8]) -> u32 {
+    u32::from_be_bytes([octets[0], octets[1], octets[2], octets[3]])
+}
+
+/// The identifier that a text of 29 characters says.
+fn esi_in(text: &[u8]) -> Option<[u8; 10]> {
+    if text.len() != 29 {
+        return None;
+    }
+    let mut esi = [0; 10];
+    for (place, octet) in esi.iter_mut().enumerate() {
+        let pair = &text[3 * place..];
+        if place < 9 && pair[2] != b':' {
+            return None;
+        }
+        *octet = 16 * digit(pair[0])? + digit(pair[1])?;
+    }
+    Some(esi)
+}
+
+fn digit(character: u8) -> Option<u8> {
+    (character as char).to_digit(16).map(|value| value as u8)
+}
+
+/// A run of records, the first of them the identifier's text: of ten later ones about five are queries, three announcements and two withdrawals.
+/// Each thousand has an algorithm and an AC-DF bit of its own, so that a table agrees for a while, and then again after a change; the addresses
+/// are 72, so that a table is now and then full.
+pub fn generated(records: usize, seed: u64) -> Vec<u8> {
+    let mut random = Random(seed);
+    let addresses = workload::addresses(72, &mut random);
+    let mut octets = Vec::new();
+    put(&mut octets, 0, b"00:11:22:33:44:55:66:77:88:99");
+    let (mut algorithm, mut ac_df) = (0, false);
+    for number in 1..records {
+        if number % 1000 == 1 {
+            algorithm = random.below(4) as u8;
+            ac_df = random.one_in(2);
+        }
+        let address = addresses[random.below(addresses.len())];
+        match random.below(10) {
+            0..=2 => {
+                let mut payload = workload::route(&workload::ESI, address).to_vec();
+                let preference = random.word() as u16;
+                payload.extend(workload::community(
+                    algorithm,
+                    ac_df,
+                    random.one_in(2),
+                    preference,
+                ));
+                put(&mut octets, 1, &payload);
+            }
+            3..=4 => put(&mut octets, 2, &address.to_be_bytes()),
+            _ => {
+                let tag = 1 + random.below(4094) as u32;
+                let mut payload = tag.to_be_bytes().to_vec();
+                if ac_df {
+                    let from = random.below(addresses.len());
+                    for place in 0..random.below(62) {
+                        let ready = addresses[(from + place) % addresses.len()];
+                        payload.extend(ready.to_be_bytes());
+                    }
+                }
+                put(&mut octets, 3, &payload);
+            }
+        }
+    }
+    octets
+}
+
+fn put(octets: &mut Vec<u8>, kind: u8, payload: &[u8]) {
+    octets.extend(MARK);
+    octets.extend([kind, payload.len() as u8]);
+    octets.extend_from_slice(payload);
+}
