@@ -29,7 +29,12 @@ const ROUTE: usize = 25;
 fn with_answer(sum: u64, a: Answer) -> u64
     ensures { λ r. ⌜ r ≡ withAnswer sum a ⌝ }
 {
-    sum ^ a.candidates ^ (a.address as u64) ^ (a.n as u64) ^ (a.algorithm as u64) ^ (a.number as u64)
+    sum
+        ^ a.candidates
+        ^ (a.address as u64)
+        ^ (a.n as u64)
+        ^ (a.algorithm as u64)
+        ^ (a.number as u64)
 }
 
 // A checksum with what a returning router sends.
@@ -169,7 +174,13 @@ pub extern "C" fn meter_elect(esi: &[u8], runs: &[u8], ready: &[u32], rounds: u3
 
 // A round: what the router of the next address, from 0 on, sends when it comes back with a preference and DP set.
 #[no_mangle]
-pub extern "C" fn meter_returning(esi: &[u8], runs: &[u8], algorithm: u8, preference: u16, rounds: u32) -> u64
+pub extern "C" fn meter_returning(
+    esi: &[u8],
+    runs: &[u8],
+    algorithm: u8,
+    preference: u16,
+    rounds: u32,
+) -> u64
     ensures { λ r. ⌜ r ≡ returningSum (loadedTable (now (esi .entry)) (now (runs .entry))) algorithm preference rounds ⌝ }
 {
     let t = loaded(esi, runs);

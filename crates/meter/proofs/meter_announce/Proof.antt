@@ -1,0 +1,123 @@
+-- `meter_announce` meets its contract: after some turns the loop stands where as many rounds leave it. Assumes nothing.
+use lib.ListN.{length}
+use Prim.Native.Nat.{_≤_, _-_, _<_, _/_}
+use native.Mathlib.Omega.{arith}
+use borrow.Author.Needs.{needs}
+use mathlib.Core.Path.{_≡_, refl, sym}
+use Rattle.table.specs.Table.{WellFormed}
+use Rattle.meter.specs.Meter.{times, begun, announceRound}
+use Rattle.meter.proofs.Laws.{times-none, stands, announces, following-below, over-none, over-some, announce-next, announce-all}
+use Rattle.meter.proofs.meter_announce.Statement.{statement}
+use Rattle.meter.proofs.meter_announce.Tie as tie
+
+abbrev Inv-loop : tie.InvT-loop
+Inv-loop esi runs calls rounds n t₀ sum₀ k₀ i₀ t sum k i = (i ≤ rounds) × (k < n) × WellFormed t × (stands t k sum ≡ times (announceRound calls n) (begun t₀) i)
+
+abbrev μ-loop : tie.MeasureT-loop
+μ-loop esi runs calls rounds n t₀ sum₀ k₀ i₀ t sum k i = rounds - i
+
+returns : tie.Need-returns Inv-loop μ-loop
+returns c =
+    let s = c .before .before .before .before in
+    announce-all (s .args .esi .now) (s .args .runs .now) (s .args .calls .now) (s .args .rounds) 0 _ refl (over-none _ _ _ _ (c .if1 .taken))
+
+loaded-requires : tie.Need-loaded-requires Inv-loop μ-loop
+loaded-requires c κs = search needs
+
+loop-holds : tie.Need-loop-holds Inv-loop μ-loop
+loop-holds c = (omega arith, omega arith, c .loaded .ensures .1, sym (times-none _ _))
+
+mul-at : tie.Need-mul-at Inv-loop μ-loop
+mul-at c = omega arith
+
+add-mid : tie.Need-add-mid Inv-loop μ-loop
+add-mid c = omega arith
+
+add-end : tie.Need-add-end Inv-loop μ-loop
+add-end c = omega arith
+
+sub-announce : tie.Need-sub-announce Inv-loop μ-loop
+sub-announce c = omega arith
+
+part-announce-start : tie.Need-part-announce-start Inv-loop μ-loop
+part-announce-start c = omega arith
+
+part-announce-end : tie.Need-part-announce-end Inv-loop μ-loop
+part-announce-end c = omega arith
+
+sub-announce-2 : tie.Need-sub-announce-2 Inv-loop μ-loop
+sub-announce-2 c = omega arith
+
+part-announce-start-2 : tie.Need-part-announce-start-2 Inv-loop μ-loop
+part-announce-start-2 c = omega arith
+
+part-announce-end-2 : tie.Need-part-announce-end-2 Inv-loop μ-loop
+part-announce-end-2 c = omega arith
+
+announce-requires : tie.Need-announce-requires Inv-loop μ-loop
+announce-requires c κs = c .before .before .before .loop .inv .2
+
+cast-sum : tie.Need-cast-sum Inv-loop μ-loop
+cast-sum c = omega arith
+
+next-requires : tie.Need-next-requires Inv-loop μ-loop
+next-requires c κs = c .before .before .before .before .before .before .loop .inv .1
+
+add-i : tie.Need-add-i Inv-loop μ-loop
+add-i c = omega arith
+
+loop-less : tie.Need-loop-less Inv-loop μ-loop
+loop-less c = omega arith
+
+loop-again : tie.Need-loop-again Inv-loop μ-loop
+loop-again c =
+    let an = c .before .before .before in
+    let at = an .before .before .before .before in
+    let s = at .before .before .before .before .before .before in
+    let calls = s .args .calls .now in
+    let next = c .next .ensures in
+    let below = following-below (at .loop .k) (length calls / 33) (at .loop .inv .1) in (
+      omega arith,
+      rw next below,
+      an .announce .ensures .1 .0,
+      announce-next calls (length calls / 33) (at .loop .k) (c .next .result) (at .loop .sum) (at .loop .i) (at .loop .t) _ next _ (announces calls (at .loop .k) _ _ (an .announce .ensures .0)) (at .loop .inv .3),
+    )
+
+close-requires : tie.Need-close-requires Inv-loop μ-loop
+close-requires c κs = c .before .loop .inv .2
+
+returns-2 : tie.Need-returns-2 Inv-loop μ-loop
+returns-2 c =
+    let at = c .before .before in
+    let s = at .before .before .before .before .before .before in
+    let some : length (s .args .calls .now) / 33 ≡ 0 → ⊥ = λ z. omega (arith, at .loop .inv .1) in
+    let all : at .loop .i ≡ s .args .rounds = omega arith in
+    announce-all (s .args .esi .now) (s .args .runs .now) (s .args .calls .now) (s .args .rounds) _ _ (at .before .loaded .ensures .0)
+    (over-some _ _ _ (s .args .rounds) (at .loop .i) _ (at .loop .sum) (at .loop .k) (at .loop .t) some all (at .loop .inv .3) (c .close .ensures))
+
+pub meter-announce-spec : {M : Type 1} → statement M
+meter-announce-spec =
+    tie.close
+    (tie.spec
+    Inv-loop
+    μ-loop
+    returns
+    loaded-requires
+    loop-holds
+    mul-at
+    add-mid
+    add-end
+    sub-announce
+    part-announce-start
+    part-announce-end
+    sub-announce-2
+    part-announce-start-2
+    part-announce-end-2
+    announce-requires
+    cast-sum
+    next-requires
+    add-i
+    loop-less
+    loop-again
+    close-requires
+    returns-2)
