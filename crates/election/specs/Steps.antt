@@ -5,6 +5,8 @@
 --   placeBeats a d es p q  == whether the entry at place p beats the one at q
 --   bestPlace a d es ps    == of the places ps of the entries es, the first whose entry has the best score; 64 where there is none
 --   electedPlace ..        == the place that is elected among the places ps
+--   digestUnder a tag i    == the digest of the tag on the identifier i under algorithm 1, and 0 under the others, which ask for none
+--   answerFor i l tag ready == the answer of the election once 10 and 11 are passed
 use Prim.Native.Nat.{ℕ, _+_, _*_, _%_}
 use mathlib.Core.Bool.{Bool, cond, not}
 use mathlib.Core.List.{List}
@@ -12,8 +14,10 @@ use lib.ListN.{length, getD}
 use lib.Dec.{ltb, eqb}
 use Rattle.table.specs.declared.Entry.{Entry}
 use Rattle.table.specs.Table.{none}
-use Rattle.hrw.specs.Weight.{weightOf}
+use Rattle.hrw.specs.Weight.{digestOf, weightOf}
 use Rattle.choice.specs.Choice.{bestOf}
+use Rattle.election.specs.declared.Answer.{Answer}
+use Rattle.election.specs.Election.{inUse, candidates, candidateSet, answerOf}
 
 -- preference and a bit behind it
 abbrev pub withBit : ℕ → Bool → ℕ
@@ -34,3 +38,9 @@ bestPlace a d es ps = bestOf (placeBeats a d es) 64 ps
 
 unfoldable pub electedPlace : ℕ → ℕ → ℕ → List Entry → List ℕ → ℕ
 electedPlace a tag d es ps = cond (eqb a 0) (getD ps (tag % length ps) 64) (bestPlace a d es ps)
+
+unfoldable pub digestUnder : ℕ → ℕ → List ℕ → ℕ
+digestUnder a tag i = cond (eqb a 1) (digestOf tag i) 0
+
+unfoldable pub answerFor : List ℕ → List Entry → ℕ → List ℕ → Answer
+answerFor i l tag ready = answerOf i (inUse l) (candidates (inUse l) ready l) (candidateSet (inUse l) ready l) tag

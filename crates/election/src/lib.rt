@@ -6,14 +6,11 @@ use table::Found;
 use table::Table;
 ghost use mathlib.Core.Path.{_≡_};
 ghost use mathlib.Core.List.{map};
-ghost use Prim.Native.Nat.{_<_};
-ghost use lib.ListN.{length};
 ghost use lib.Count.{ones};
-ghost use Rattle.table.specs.Table.{live, none, WellFormed};
+ghost use Rattle.table.specs.Table.{live, WellFormed};
 ghost use Rattle.places.specs.Places.{places, setOf};
-ghost use Rattle.hrw.specs.Weight.{digestOf};
-ghost use Rattle.election.specs.Election.{inUse, onList, candidates, candidateSet, reservedTag, electOf, refused, NoneNamed};
-ghost use Rattle.election.specs.Steps.{withBit, scoreOf, beats, bestPlace, electedPlace};
+ghost use Rattle.election.specs.Election.{inUse, onList, electOf, refused, NoneNamed};
+ghost use Rattle.election.specs.Steps.{withBit, scoreOf, beats, bestPlace, digestUnder, answerFor};
 
 // The algorithm and the AC-DF bit that an election goes by.
 pub struct InUse {
@@ -67,32 +64,37 @@ pub fn in_use(t: Table) -> InUse
     }
 }
 
+// Whether an address is on the ready list. All of the list is looked at, which the compiler makes several looks at once.
+fn on_list(ready: &[Address], address: Address) -> bool
+    ensures { λ r. ⌜ r ≡ onList (now (ready .entry)) address ⌝ }
+{
+    let mut found = false;
+    let mut i = 0;
+    while i < ready.len() {
+        if address::same(ready[i], address) {
+            found = true;
+        }
+        i += 1;
+    }
+    found
+}
+
 // The set of the places whose address is on the ready list. Repeats and strangers in the list do no harm.
 pub fn ready_set(t: Table, ready: &[Address]) -> u64
     requires { ⌜ WellFormed t ⌝ }
     ensures { λ r. ⌜ r ≡ setOf (map (λ e. onList (now (ready .entry)) (e .address)) (live t)) ⌝ }
 {
+    let n = t.count;
     let mut set = 0;
-    let mut i = 0;
-    while i < ready.len() {
-        let found = table::find(t, ready[i]);
-        if let Found::At(at) = found {
+    let mut at = 0;
+    while at < n {
+        let e = t.entries[at];
+        if on_list(ready, e.address) {
             set = places::with(set, at);
         }
-        i += 1;
+        at += 1;
     }
     set
-}
-
-// The set of the candidates: all places in use or, with AC-DF in use, those on the ready list.
-fn candidate_set(t: Table, ac_df: bool, ready: &[Address]) -> u64
-    requires { ⌜ WellFormed t ⌝ }
-    ensures { λ r. ⌜ r ≡ candidateSet (record { algorithm = 0; «ac_df» = «ac_df» }) (now (ready .entry)) (live t) ⌝ }
-{
-    if ac_df {
-        return ready_set(t, ready);
-    }
-    places::below(t.count)
 }
 
 // A preference and a bit behind it.
@@ -123,10 +125,13 @@ fn score(e: Entry, algorithm: u8, digest: u32) -> u32
 fn score_beats(algorithm: u8, s: u32, r: u32) -> bool
     ensures { λ b. ⌜ b ≡ beats algorithm s r ⌝ }
 {
+    let mut low = r;
+    let mut high = s;
     if algorithm == 3 {
-        return s < r;
+        low = s;
+        high = r;
     }
-    r < s
+    low < high
 }
 
 // Of a set of places, the first whose entry has the best score; 64 for the empty set.
@@ -154,17 +159,15 @@ pub fn best_place(t: Table, set: u64, algorithm: u8, digest: u32) -> usize
     at
 }
 
-// The place that is elected among a set of places that is not empty.
-fn elected_place(t: Table, set: u64, algorithm: u8, tag: u32, n: u32) -> usize
-    requires { ⌜ WellFormed t × (n ≡ length (places set)) × (0 < n) ⌝ }
-    ensures { λ r. ⌜ r ≡ electedPlace algorithm tag (digestOf tag (t .esi)) (t .entries) (places set) ⌝ }
+// The digest of a tag on the table's segment, which only algorithm 1 asks for; 0 under the others.
+fn digest_under(t: Table, algorithm: u8, tag: u32) -> u32
+    ensures { λ r. ⌜ r ≡ digestUnder algorithm tag (t .esi) ⌝ }
 {
-    if algorithm == 0 {
-        return places::nth(set, tag % n);
+    if algorithm != 1 {
+        return 0;
     }
     let esi = t.esi;
-    let digest = hrw::digest(tag, esi);
-    best_place(t, set, algorithm, digest)
+    hrw::digest(tag, esi)
 }
 
 fn refusal(number: u8) -> Answer
@@ -176,6 +179,40 @@ fn refusal(number: u8) -> Answer
         algorithm: 0,
         n: 0,
         candidates: 0,
+    }
+}
+
+// The answer once the tag and the list are accepted: 12 where no candidate is eligible. All places in use are candidates or, with AC-DF in use,
+// those on the ready list; N is the number of the ones of their set.
+fn elect_accepted(t: Table, tag: u32, ready: &[Address]) -> Answer
+    requires { ⌜ WellFormed t ⌝ }
+    ensures answer { λ r. ⌜ r ≡ answerFor (t .esi) (live t) tag (now (ready .entry)) ⌝ }
+    ensures counted { λ r. ⌜ r .n ≡ ones (r .candidates) ⌝ }
+{
+    let u = in_use(t);
+    let mut set = places::below(t.count);
+    if u.ac_df {
+        set = ready_set(t, ready);
+    }
+    if set == 0 {
+        return refusal(12);
+    }
+    let n = places::count(set);
+    let algorithm = u.algorithm;
+    let mut at = 64;
+    if algorithm == 0 {
+        at = places::nth(set, tag % n);
+    } else {
+        let digest = digest_under(t, algorithm, tag);
+        at = best_place(t, set, algorithm, digest);
+    }
+    let e = t.entries[at];
+    Answer {
+        number: 0,
+        address: e.address,
+        algorithm: algorithm,
+        n: n,
+        candidates: set,
     }
 }
 
@@ -196,20 +233,5 @@ pub fn elect(t: Table, tag: u32, ready: &[Address]) -> Answer
     if 64 < ready.len() {
         return refusal(11);
     }
-    let u = in_use(t);
-    let set = candidate_set(t, u.ac_df, ready);
-    if set == 0 {
-        return refusal(12);
-    }
-    let n = places::count(set);
-    let algorithm = u.algorithm;
-    let at = elected_place(t, set, algorithm, tag, n);
-    let e = t.entries[at];
-    Answer {
-        number: 0,
-        address: e.address,
-        algorithm: algorithm,
-        n: n,
-        candidates: set,
-    }
+    elect_accepted(t, tag, ready)
 }

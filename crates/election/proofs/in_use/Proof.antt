@@ -1,5 +1,4 @@
 -- `in_use` meets its contract: at every turn, the entries from the present place on decide whether all after the first agree with it. Assumes nothing.
-use borrow.Author.Needs.{needs}
 use Prim.Native.Nat.{_≤_, _-_}
 use native.Mathlib.Omega.{arith}
 use mathlib.Core.Path.{_≡_, refl, _∙_}

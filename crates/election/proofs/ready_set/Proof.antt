@@ -1,47 +1,41 @@
--- `ready_set` meets its contract: at every turn, the set is that of the addresses looked up so far. Assumes nothing.
+-- `ready_set` meets its contract: at every turn, the set is that of the places looked at so far. Assumes nothing.
 use borrow.Author.Needs.{needs}
 use Prim.Native.Nat.{_≤_, _<_, _-_}
 use native.Mathlib.Omega.{arith}
-use mathlib.Core.Path.{_≡_, refl, ap, _∙_, sym}
+use mathlib.Core.Path.{_≡_, _∙_, sym}
 use mathlib.Core.Logic.{⊎-elim}
-use denote.Ref.{now}
-use lib.ListN.{length, take}
+use lib.ListN.{take}
 use lib.Seq.{take-all}
 use Rattle.table.specs.Table.{live}
+use Rattle.table.proofs.Laws.{length-live}
 use Rattle.places.specs.Places.{setOf}
-use Rattle.election.proofs.Ready.{flags, ready-none, ready-found, ready-stranger}
+use Rattle.election.proofs.Ready.{flags, ready-none, ready-on, ready-off}
 use Rattle.election.proofs.ready_set.Statement.{statement}
 use Rattle.election.proofs.ready_set.Tie as tie
 
 abbrev Inv-loop : tie.InvT-loop
-Inv-loop t ready set₀ i₀ set i = (i ≤ length ready) × (set ≡ setOf (flags (take i ready) (live t)))
+Inv-loop ready t n set₀ at₀ set at = (at ≤ n) × (set ≡ setOf (flags ready (take at (live t))))
 
 abbrev μ-loop : tie.MeasureT-loop
-μ-loop t ready set₀ i₀ set i = length ready - i
+μ-loop ready t n set₀ at₀ set at = n - at
 
 loop-holds : tie.Need-loop-holds Inv-loop μ-loop
-loop-holds c = (omega arith, ready-none (live (c .before .args .t)))
+loop-holds c = let start = c .before in (omega arith, ready-none (start .args .ready .now) (live (start .args .t1)))
 
-mul-find : tie.Need-mul-find Inv-loop μ-loop
-mul-find c = omega arith
+mul-e : tie.Need-mul-e Inv-loop μ-loop
+mul-e c = omega (arith, c .before .before .before .pre .short)
 
-shared-slice-read-find : tie.Need-shared-slice-read-find Inv-loop μ-loop
-shared-slice-read-find c = omega arith
+element-copy-out-e : tie.Need-element-copy-out-e Inv-loop μ-loop
+element-copy-out-e c = omega (arith, c .before .before .before .pre .short)
 
-find-requires : tie.Need-find-requires Inv-loop μ-loop
-find-requires c κs = c .before .before .before .before .pre
-
-enum-known-found : tie.Need-enum-known-found Inv-loop μ-loop
-enum-known-found c = search needs
+on-list-requires : tie.Need-on-list-requires Inv-loop μ-loop
+on-list-requires c κs = search needs
 
 with-requires : tie.Need-with-requires Inv-loop μ-loop
 with-requires c κs = search needs
 
-enum-told : tie.Need-enum-told Inv-loop μ-loop
-enum-told c = search needs
-
-add-i : tie.Need-add-i Inv-loop μ-loop
-add-i c = omega arith
+add-at : tie.Need-add-at Inv-loop μ-loop
+add-at c = omega (arith, c .before .before .before .before .before .before .pre .short)
 
 loop-less : tie.Need-loop-less Inv-loop μ-loop
 loop-less c = omega arith
@@ -51,21 +45,23 @@ loop-again c =
     let called = c .before in
     let turn = called .before .before .before in
     let start = turn .before .before in
-    let t = start .args .t in
-    let ready = now (start .args .ready) in
-    let h : turn .loop .i < length ready = omega arith in (
+    let t = start .args .t1 in
+    let s = start .args .ready .now in
+    let i = turn .loop .at in
+    let h : i < t .count = omega arith in (
       omega arith,
       ⊎-elim
-          (λ w. w .4 ∙ w .3 .ensures ∙ ready-found t (start .pre) ready (turn .loop .i) h (turn .loop .set) (turn .loop .inv .1) _ (sym (called .find .ensures) ∙ w .1 .given .1))
-          (λ w. w .2 ∙ ready-stranger t (start .pre) ready (turn .loop .i) h (turn .loop .set) (turn .loop .inv .1) _ (sym (called .find .ensures) ∙ w .1 .given .1))
-          (c .match .came),
+          (λ w. w .2 ∙ w .1 .ensures ∙ ready-on t (start .pre) s i _ h (turn .loop .set) (turn .loop .inv .1) (sym (called .on-list .ensures) ∙ w .0 .taken))
+          (λ w. w .1 ∙ ready-off t (start .pre) s i _ h (turn .loop .set) (turn .loop .inv .1) (sym (called .on-list .ensures) ∙ w .0 .left))
+          (c .if1 .came),
     )
 
 returns : tie.Need-returns Inv-loop μ-loop
 returns c =
     let turn = c .before in
-    let ready = now (turn .before .before .args .ready) in
-    let e : take (turn .loop .i) ready ≡ ready = take-all (turn .loop .i) ready (omega arith) in
+    let start = turn .before .before in
+    let t = start .args .t1 in
+    let e : take (turn .loop .at) (live t) ≡ live t = take-all (turn .loop .at) (live t) (omega (arith, length-live t (start .pre))) in
     turn .loop .inv .1 ∙ rw e
 
 pub ready-set-spec : {M : Type 1} → statement M
@@ -75,13 +71,11 @@ ready-set-spec =
     Inv-loop
     μ-loop
     loop-holds
-    mul-find
-    shared-slice-read-find
-    find-requires
-    enum-known-found
+    mul-e
+    element-copy-out-e
+    on-list-requires
     with-requires
-    enum-told
-    add-i
+    add-at
     loop-less
     loop-again
     returns)
