@@ -5,8 +5,8 @@ use native.Mathlib.Nat.{le-of-suc-le-suc, not-suc-le-zero}
 use native.Mathlib.Decide.{decLt, ℕ-discrete}
 use native.Mathlib.Numerals.{add-one}
 use native.Mathlib.Omega.{arith}
-use mathlib.Core.Path.{_≡_, refl, ap}
-use mathlib.Core.Bool.{Bool, true, false, cond, _||_}
+use mathlib.Core.Path.{_≡_, refl, ap, sym, _∙_}
+use mathlib.Core.Bool.{Bool, true, false, cond}
 use mathlib.Core.List.{List, [], _∷_, _++_, map}
 use lib.ListN.{length, getD, set, take, drop, replicate}
 use lib.Dec.{ltb, eqb}
@@ -124,12 +124,37 @@ module _ {A : Type 0} where
   splice-padded (suc n) z (x ∷ l) zero e h = ap (e ∷_) (front-padded n z (x ∷ l))
   splice-padded (suc n) z (x ∷ l) (suc i) e h = ap (x ∷_) (splice-padded n z l i e (le-of-suc-le-suc h))
 
+  -- the places that are left unused, and a shift that ends before them
+  pub drop-padded : (n m : ℕ) (z : A) (l : List A) → n ≡ length l + m → drop (length l) (padded n z l) ≡ padded m z []
+  unfolding padded
+  drop-padded n m z [] h = let e : n ≡ m = omega arith in rw e
+  drop-padded zero m z (x ∷ l) h = absurd (omega arith)
+  drop-padded (suc n) m z (x ∷ l) h = drop-padded n m z l (omega arith)
+
+  pub splice-stop : (l : List A) (i m : ℕ) (e z : A) → i < length l → drop i l ≡ padded m z [] → take (length l) (spliced l i e) ≡ set l i e
+  unfolding spliced padded
+  splice-stop [] i m e z h q = absurd (not-suc-le-zero h)
+  splice-stop (x ∷ l) zero m e z h q =
+      let n : suc (length l) ≡ m = ap length q ∙ length-padded m z [] in
+      let r : x ∷ l ≡ padded (suc (length l)) z [] = q ∙ ap (λ (k : ℕ). padded k z []) (sym n) in
+      ap (e ∷_) (ap (take (length l)) r ∙ front-padded (length l) z [] ∙ sym (ap (drop 1) r))
+  splice-stop (x ∷ l) (suc i) m e z h q = ap (x ∷_) (splice-stop l i m e z (le-of-suc-le-suc h) q)
+
   snoc-padded : (n : ℕ) (z : A) (l : List A) → length l ≤ n → padded n z l ++ (z ∷ []) ≡ padded (suc n) z l
   unfolding padded
   snoc-padded zero z [] h = refl
   snoc-padded zero z (x ∷ l) h = absurd (not-suc-le-zero h)
   snoc-padded (suc n) z [] h = ap (z ∷_) (snoc-padded n z [] zero-le)
   snoc-padded (suc n) z (x ∷ l) h = ap (x ∷_) (snoc-padded n z l (le-of-suc-le-suc h))
+
+  cut-before : (l : List A) (i m : ℕ) (z : A) → i < length l → drop (suc i) l ≡ padded m z [] → set l i z ≡ cut l i ++ (z ∷ [])
+  unfolding cut padded
+  cut-before [] i m z h q = absurd (not-suc-le-zero h)
+  cut-before (x ∷ l) zero m z h q = ap (z ∷_) q ∙ sym (ap (λ (k : List A). k ++ (z ∷ [])) q ∙ snoc-padded m z [] zero-le)
+  cut-before (x ∷ l) (suc i) m z h q = ap (x ∷_) (cut-before l i m z (le-of-suc-le-suc h) q)
+
+  pub cut-stop : (l : List A) (i m : ℕ) (z : A) → i < length l → drop (i + 1) l ≡ padded m z [] → set l i z ≡ cut l i ++ (z ∷ [])
+  cut-stop l i m z h q = cut-before l i m z h (ap (λ (k : ℕ). drop k l) (sym (add-one i)) ∙ q)
 
   pub cut-padded : (n : ℕ) (z : A) (l : List A) (i : ℕ) → i < length l → length l ≤ n → cut (padded n z l) i ++ (z ∷ []) ≡ padded n z (cut l i)
   unfolding padded cut

@@ -5,9 +5,9 @@ use mathlib.Core.Path.{_≡_, refl, ap, _∙_, sym, subst}
 use mathlib.Core.Bool.{Bool, true, false, cond, not, _||_}
 use mathlib.Core.List.{List, [], _∷_, _++_}
 use mathlib.Core.Logic.{_⊎_, inl, inr, ⊎-elim}
-use lib.ListN.{length, getD, set, take, length-set, replicate}
+use lib.ListN.{length, set, take, length-set, replicate}
 use lib.Dec.{ltb, eqb}
-use borrow.Author.Tests.{lt-ltb, le-ltb, ltb-true, eq-eqb, ne-eqb, eqb-true, eqb-false}
+use borrow.Author.Tests.{lt-ltb, le-ltb, ltb-true, ne-eqb, eqb-true, eqb-false}
 use Rattle.octets.specs.Octets.{sameOctets, stored}
 use Rattle.octets.proofs.Laws.{same-equal, stored-all}
 use Rattle.address.specs.Address.{addressKey, isZero}
@@ -20,9 +20,9 @@ use Rattle.route.proofs.Laws.{route-esi, route-address, told-originator, told-r
 use Rattle.community.specs.Community.{listFits, electionIn, readList}
 use Rattle.community.specs.declared.ListRead.{ListRead}
 use Rattle.community.proofs.Laws.{list-refused, list-accepted, election-right}
-use Rattle.keyed.specs.Keyed.{padded, spliced, cut, Rising, has, rank, insert, remove, Every}
+use Rattle.keyed.specs.Keyed.{spliced, cut, Rising, has, rank, insert, remove, Every}
 use Rattle.keyed.proofs.Keyed as keyed
-use Rattle.keyed.proofs.Order.{length-insert, length-remove-le, has-none}
+use Rattle.keyed.proofs.Order.{length-insert, length-remove-le}
 use Rattle.table.specs.Table.{keyOf, none, entryOf, EntryRight, live, tableOf, WellFormed, ownerOf, announceNumber, withdrawNumber, changed, freshTable, announced, withdrawn}
 use Rattle.table.specs.Steps.{foundIn, admitted}
 use Rattle.table.specs.declared.Entry.{Entry}

@@ -11,7 +11,7 @@ ghost use lib.ListN.{take};
 ghost use Rattle.address.specs.Address.{addressKey};
 ghost use Rattle.keyed.specs.Keyed.{spliced, cut};
 ghost use Rattle.table.specs.Table.{keyOf, none, entryOf, EntryRight, live, WellFormed, freshTable, announced, withdrawn};
-ghost use Rattle.table.specs.Steps.{foundIn, admitted};
+ghost use Rattle.table.specs.Steps.{UnusedFrom, foundIn, admitted};
 
 // The most routes that a table holds.
 pub const MAX_ROUTES: usize = 64;
@@ -132,36 +132,38 @@ pub fn find(t: Table, address: Address) -> Found
     r.found
 }
 
-// One entry more: those from place `at` on move right, and the last falls off.
-fn opened(es: [Entry; 64], at: usize, e: Entry) -> [Entry; 64]
-    requires { ⌜ at ≤ 64 ⌝ }
+// One entry more: of the n entries those from place `at` on move right, the last of them into an unused place.
+fn opened(es: [Entry; 64], n: usize, at: usize, e: Entry) -> [Entry; 64]
+    requires { ⌜ (at ≤ n) × (n < 64) × UnusedFrom n es ⌝ }
     ensures { λ r. ⌜ r ≡ take 64 (spliced es at e) ⌝ }
 {
     let mut out = es;
     let mut carry = e;
     let mut i = at;
-    while i < 64 {
+    while i < n {
         let x = out[i];
         out[i] = carry;
         carry = x;
         i += 1;
     }
+    out[n] = carry;
     out
 }
 
-// One entry less: those after place `at` move left, and the last place is zero.
-fn closed(es: [Entry; 64], at: usize) -> [Entry; 64]
-    requires { ⌜ at < 64 ⌝ }
+// One entry less: of the n entries those after place `at` move left, and the place of the last is zero.
+fn closed(es: [Entry; 64], n: usize, at: usize) -> [Entry; 64]
+    requires { ⌜ (at < n) × (n ≤ 64) × UnusedFrom n es ⌝ }
     ensures { λ r. ⌜ r ≡ cut es at ++ (none ∷ []) ⌝ }
 {
+    let last = n - 1;
     let mut out = es;
     let mut i = at;
-    while i < 63 {
+    while i < last {
         let x = out[i + 1];
         out[i] = x;
         i += 1;
     }
-    out[63] = NONE;
+    out[last] = NONE;
     out
 }
 
@@ -189,7 +191,7 @@ fn admit(t: Table, e: Entry) -> Change
                 };
             }
             let es = t.entries;
-            let out = opened(es, at, e);
+            let out = opened(es, n, at, e);
             let more = n + 1;
             let esi = t.esi;
             let u = Table {
@@ -271,8 +273,9 @@ pub fn withdraw(t: Table, address: Address) -> Change
         };
     };
     let es = t.entries;
-    let out = closed(es, at);
-    let fewer = t.count - 1;
+    let n = t.count;
+    let out = closed(es, n, at);
+    let fewer = n - 1;
     let esi = t.esi;
     let u = Table {
         esi: esi,

@@ -1,4 +1,5 @@
 -- `admit` meets its contract: `find` says which case of `admitted` holds. Assumes nothing.
+use Rattle.table.proofs.Laws.{unused}
 use borrow.Author.Needs.{needs}
 use native.Mathlib.Omega.{arith}
 use mathlib.Core.Path.{sym, _∙_}
@@ -45,7 +46,7 @@ opened-requires c κs =
     let called = told .before .before in
     let start = called .before in
     let h = missing-count (start .args .t) (start .pre) (keyOf (start .args .e)) _ (sym (called .find .ensures) ∙ told .found2 .given .1) in
-    omega arith
+    (omega arith, omega arith, unused (start .args .t) (start .pre))
 
 add-more : tie.Need-add-more
 add-more c = search needs

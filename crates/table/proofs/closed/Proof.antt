@@ -1,22 +1,28 @@
--- `closed` meets its contract. The list without the present place is the same at every turn.
+-- `closed` meets its contract. The list without the present place is the same at every turn; the places from n on stay unused.
 -- Assumes nothing.
-use Prim.Native.Nat.{_≤_, _-_}
+use Rattle.table.specs.Table.{none}
+use Prim.Native.Nat.{ℕ, _+_, _≤_, _-_}
 use native.Mathlib.Omega.{arith}
 use mathlib.Core.Path.{_≡_, refl, ap, _∙_}
-use lib.ListN.{length, length-set}
+use lib.ListN.{length, drop, length-set}
+use lib.Seq.{drop-set-lt}
 use Rattle.keyed.specs.Keyed.{cut}
-use Rattle.keyed.proofs.Keyed.{cut-next, cut-end}
+use Rattle.keyed.proofs.Keyed.{cut-next, cut-stop}
+use Rattle.table.specs.Steps.{UnusedFrom}
 use Rattle.table.proofs.closed.Statement.{statement}
 use Rattle.table.proofs.closed.Tie as tie
 
 abbrev Inv-loop : tie.InvT-loop
-Inv-loop at out₀ i₀ out i = (i ≤ 63) × (length out ≡ 64) × (cut out i ≡ cut out₀ at)
+Inv-loop n at last out₀ i₀ out i = (i ≤ last) × (length out ≡ 64) × (cut out i ≡ cut out₀ at) × UnusedFrom n out
 
 abbrev μ-loop : tie.MeasureT-loop
-μ-loop at out₀ i₀ out i = 63 - i
+μ-loop n at last out₀ i₀ out i = last - i
+
+sub-last : tie.Need-sub-last Inv-loop μ-loop
+sub-last c = omega arith
 
 loop-holds : tie.Need-loop-holds Inv-loop μ-loop
-loop-holds c = (omega arith, omega arith, refl)
+loop-holds c = (omega arith, omega arith, refl, c .pre .2)
 
 add-x : tie.Need-add-x Inv-loop μ-loop
 add-x c = omega arith
@@ -42,7 +48,11 @@ loop-less c = omega arith
 loop-again : tie.Need-loop-again Inv-loop μ-loop
 loop-again c =
     let now = c .before .before .loop in
-    (omega arith, simp length-set (now .inv .1), cut-next (now .out) (now .i) _ (omega arith) ∙ now .inv .2)
+    let n = c .before .before .before .args .n in
+    (omega arith, simp length-set (now .inv .1), cut-next (now .out) (now .i) _ (omega arith) ∙ now .inv .2, drop-set-lt n (now .out) (now .i) _ (omega arith) ∙ now .inv .3)
+
+mul-out-2 : tie.Need-mul-out-2 Inv-loop μ-loop
+mul-out-2 c = omega arith
 
 array-set-from-out-2 : tie.Need-array-set-from-out-2 Inv-loop μ-loop
 array-set-from-out-2 c = omega arith
@@ -50,8 +60,10 @@ array-set-from-out-2 c = omega arith
 returns : tie.Need-returns Inv-loop μ-loop
 returns c =
     let now = c .before .loop in
-    let i : now .i ≡ 63 = omega arith in
-    cut-end (now .out) 63 _ (omega arith) ∙ rw (← now .inv .2, i)
+    let n = c .before .before .args .n in
+    let i : now .i ≡ n - 1 = omega arith in
+    let last : n - 1 + 1 ≡ n = omega arith in
+    cut-stop (now .out) (n - 1) (64 - n) none (omega arith) (ap (λ (k : ℕ). drop k (now .out)) last ∙ now .inv .3) ∙ rw (← now .inv .2, i)
 
 pub closed-spec : {M : Type 1} → statement M
 closed-spec =
@@ -59,6 +71,7 @@ closed-spec =
     (tie.spec
     Inv-loop
     μ-loop
+    sub-last
     loop-holds
     add-x
     mul-x
@@ -68,5 +81,6 @@ closed-spec =
     add-i
     loop-less
     loop-again
+    mul-out-2
     array-set-from-out-2
     returns)

@@ -1,22 +1,25 @@
--- `opened` meets its contract. What is carried, put in at the present place, gives the same list at every turn.
+-- `opened` meets its contract. What is carried, put in at the present place, gives the same list at every turn; the places from n on stay unused.
 -- Assumes nothing.
+use Rattle.table.specs.Table.{none}
 use Prim.Native.Nat.{_≤_, _-_}
 use native.Mathlib.Omega.{arith}
-use mathlib.Core.Path.{_≡_, refl, ap, _∙_, sym}
+use mathlib.Core.Path.{_≡_, refl, _∙_, sym}
 use lib.ListN.{length, length-set}
+use lib.Seq.{drop-set-lt}
 use Rattle.keyed.specs.Keyed.{spliced}
-use Rattle.keyed.proofs.Keyed.{splice-next, splice-end}
+use Rattle.keyed.proofs.Keyed.{splice-next, splice-stop}
+use Rattle.table.specs.Steps.{UnusedFrom}
 use Rattle.table.proofs.opened.Statement.{statement}
 use Rattle.table.proofs.opened.Tie as tie
 
 abbrev Inv-loop : tie.InvT-loop
-Inv-loop at out₀ carry₀ i₀ out carry i = (i ≤ 64) × (length out ≡ 64) × (spliced out i carry ≡ spliced out₀ at carry₀)
+Inv-loop n at out₀ carry₀ i₀ out carry i = (i ≤ n) × (length out ≡ 64) × (spliced out i carry ≡ spliced out₀ at carry₀) × UnusedFrom n out
 
 abbrev μ-loop : tie.MeasureT-loop
-μ-loop at out₀ carry₀ i₀ out carry i = 64 - i
+μ-loop n at out₀ carry₀ i₀ out carry i = n - i
 
 loop-holds : tie.Need-loop-holds Inv-loop μ-loop
-loop-holds c = (omega arith, omega arith, refl)
+loop-holds c = (omega arith, omega arith, refl, c .pre .2)
 
 mul-x : tie.Need-mul-x Inv-loop μ-loop
 mul-x c = omega arith
@@ -39,13 +42,21 @@ loop-less c = omega arith
 loop-again : tie.Need-loop-again Inv-loop μ-loop
 loop-again c =
     let now = c .before .before .loop in
-    (omega arith, simp length-set (now .inv .1), splice-next (now .out) (now .i) _ _ (omega arith) ∙ now .inv .2)
+    let n = c .before .before .before .args .n in
+    (omega arith, simp length-set (now .inv .1), splice-next (now .out) (now .i) _ _ (omega arith) ∙ now .inv .2, drop-set-lt n (now .out) (now .i) _ (omega arith) ∙ now .inv .3)
+
+mul-out-2 : tie.Need-mul-out-2 Inv-loop μ-loop
+mul-out-2 c = omega arith
+
+array-set-from-out-2 : tie.Need-array-set-from-out-2 Inv-loop μ-loop
+array-set-from-out-2 c = omega arith
 
 returns : tie.Need-returns Inv-loop μ-loop
 returns c =
     let now = c .before .loop in
-    let i : now .i ≡ 64 = omega arith in
-    sym (splice-end (now .out) 64 (now .carry) (omega arith)) ∙ rw (← now .inv .2, i)
+    let n = c .before .before .args .n in
+    let i : now .i ≡ n = omega arith in
+    sym (splice-stop (now .out) n (64 - n) (now .carry) none (omega arith) (now .inv .3)) ∙ rw (now .inv .1, ← now .inv .2, i)
 
 pub opened-spec : {M : Type 1} → statement M
 opened-spec =
@@ -61,4 +72,6 @@ opened-spec =
     add-i
     loop-less
     loop-again
+    mul-out-2
+    array-set-from-out-2
     returns)

@@ -1,4 +1,5 @@
 -- `withdraw` meets its contract: `find` says which case of `withdrawn` holds. Assumes nothing.
+use Rattle.table.proofs.Laws.{unused}
 use borrow.Author.Needs.{needs}
 use native.Mathlib.Omega.{arith}
 use mathlib.Core.Path.{sym, _∙_}
@@ -38,11 +39,11 @@ closed-requires c κs =
     let called = told .before .before in
     let start = called .before .before .before in
     let h = at-count (start .args .t) (start .pre) (addressKey (start .args .address)) _ (sym (called .find .ensures) ∙ told .found .given .1) in
-    omega arith
+    (omega arith, omega (arith, start .pre .short), unused (start .args .t) (start .pre))
 
 sub-fewer : tie.Need-sub-fewer
 sub-fewer c =
-    let told = c .before .before .before .before in
+    let told = c .before .before .before in
     let called = told .before .before in
     let start = called .before .before .before in
     let h = at-count (start .args .t) (start .pre) (addressKey (start .args .address)) _ (sym (called .find .ensures) ∙ told .found .given .1) in
@@ -50,12 +51,12 @@ sub-fewer c =
 
 returns-3 : tie.Need-returns-3
 returns-3 c =
-    let told = c .before .before .before .before .before in
+    let told = c .before .before .before .before in
     let called = told .before .before in
     let tested = called .before in
     let start = tested .before .before in
     withdrawn-both (start .args .t) (start .pre) (start .args .address)
-    (withdrawn-at (start .args .t) (start .pre) _ _ (sym (tested .before .is-zero .ensures) ∙ tested .if1 .left) (sym (called .find .ensures) ∙ told .found .given .1) (c .before .before .closed .ensures))
+    (withdrawn-at (start .args .t) (start .pre) _ _ (sym (tested .before .is-zero .ensures) ∙ tested .if1 .left) (sym (called .find .ensures) ∙ told .found .given .1) (c .before .closed .ensures))
 
 pub withdraw-spec : {M : Type 1} → statement M
 withdraw-spec =
