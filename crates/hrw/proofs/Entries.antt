@@ -3,13 +3,8 @@
 use Prim.Native.Nat.{ℕ, zero, suc, _+_, _<_}
 use native.Mathlib.Nat.{add-zero, zero-add, add-suc, suc-add, le-of-suc-le-suc, not-suc-le-zero}
 use mathlib.Core.Path.{_≡_, ap, _∙_, sym}
-use mathlib.Core.List.{List, [], _∷_}
 use lib.ListN.{getD}
-
--- f i, f (i + 1) and so on, n of them
-abbrev pub entries : (ℕ → ℕ) → ℕ → ℕ → List ℕ
-entries f i zero = []
-entries f i (suc n) = f i ∷ entries f (suc i) n
+use Rattle.hrw.specs.Halves.{entries}
 
 from : (f : ℕ → ℕ) (n i k : ℕ) → k < n → getD (entries f i n) k 0 ≡ f (i + k)
 from f zero i k h = absurd (not-suc-le-zero h)

@@ -1,7 +1,7 @@
 -- `crc_octet` meets its contract: the high bits move down, and the tables say what eight bits make of the low octet. Assumes nothing.
 use mathlib.Core.Path.{sym}
-use borrow.Author.Needs.{needs}
 use Rattle.hrw.proofs.Laws.{crcOctet-parts}
+use borrow.Author.Needs.{needs}
 use Rattle.hrw.proofs.crc_octet.Statement.{statement}
 use Rattle.hrw.proofs.crc_octet.Tie as tie
 
