@@ -13,8 +13,8 @@ use Rattle.octets.specs.Octets.{allAre}
 use Rattle.octets.proofs.Laws.{Octets, octets-replicate, all-are-replicate}
 use Rattle.esi.specs.declared.TextRead.{TextRead}
 use Rattle.esi.specs.Reserved.{reserved}
-use Rattle.esi.specs.Text.{firstWrong, wellFormed, esiIn, accepted, refused, readText, textOf, lowerCase, writeTextNumber, textWritten}
-use Rattle.esi.proofs.Places.{Right, length-text, getD-text, length-esi, esi-octets, text-esi, text-right, esi-text, right-each, each-right}
+use Rattle.esi.specs.Text.{firstWrong, FirstFault, wellFormed, esiIn, accepted, refused, readText, textOf, lowerCase, writeTextNumber, textWritten}
+use Rattle.esi.proofs.Places.{Right, length-text, getD-text, length-esi, esi-octets, text-esi, text-right, esi-text, first-fault, right-each, each-right}
 
 -- ---- reserved identifiers
 
@@ -54,11 +54,11 @@ not-zeros s h e = true≢false (sym reserved-zeros ∙ (rw e at h))
 -- ---- the three answers of reading
 
 module _ (t : List ℕ) where
-  pub read-malformed : wellFormed t ≡ false → readText t ≡ refused 13
+  pub read-malformed : wellFormed t ≡ false → readText t ≡ refused 13 (firstWrong t)
   unfolding readText
   read-malformed h = rw h
 
-  pub read-reserved : wellFormed t ≡ true → reserved (esiIn t) ≡ true → readText t ≡ refused 4
+  pub read-reserved : wellFormed t ≡ true → reserved (esiIn t) ≡ true → readText t ≡ refused 4 0
   unfolding readText
   read-reserved h k = rw (h, k)
 
@@ -91,13 +91,13 @@ module _ (t : List ℕ) where
       right-each t ((rw (take-all 29 t (omega arith)) at e) ∙ sym n) i (omega arith)
 
 -- what holds of each of the three answers holds of the answer
-pub read-cases : (t : List ℕ) (P : TextRead → Type 0) → (wellFormed t ≡ false → P (refused 13)) → (wellFormed t ≡ true → reserved (esiIn t) ≡ true → P (refused 4))
+pub read-cases : (t : List ℕ) (P : TextRead → Type 0) → (wellFormed t ≡ false → P (refused 13 (firstWrong t))) → (wellFormed t ≡ true → reserved (esiIn t) ≡ true → P (refused 4 0))
     → (wellFormed t ≡ true → reserved (esiIn t) ≡ false → P (accepted (esiIn t))) → P (readText t)
 unfolding readText
 read-cases t P = go (wellFormed t) (reserved (esiIn t))
   where
-    go : (w r : Bool) → (w ≡ false → P (refused 13)) → (w ≡ true → r ≡ true → P (refused 4)) → (w ≡ true → r ≡ false → P (accepted (esiIn t)))
-        → P (cond (not w) (refused 13) (cond r (refused 4) (accepted (esiIn t))))
+    go : (w r : Bool) → (w ≡ false → P (refused 13 (firstWrong t))) → (w ≡ true → r ≡ true → P (refused 4 0)) → (w ≡ true → r ≡ false → P (accepted (esiIn t)))
+        → P (cond (not w) (refused 13 (firstWrong t)) (cond r (refused 4 0) (accepted (esiIn t))))
     go false r a b c = a refl
     go true true a b c = b refl refl
     go true false a b c = c refl refl
@@ -120,6 +120,11 @@ module _ (t : List ℕ) where
 
   pub read-zeros : (readText t .number ≡ 0 → ⊥) → readText t .esi ≡ replicate 10 0
   read-zeros = read-cases t (λ a. (a .number ≡ 0 → ⊥) → a .esi ≡ replicate 10 0) (λ w n. refl) (λ w r n. refl) (λ w r n. absurd (n refl))
+
+  -- where 13 is answered, its place is the first fault
+  pub read-fault : readText t .number ≡ 13 → FirstFault t (readText t .place)
+  read-fault =
+      read-cases t (λ a. a .number ≡ 13 → FirstFault t (a .place)) (λ w e. first-fault t) (λ w r e. absurd (omega arith)) (λ w r e. absurd (omega arith))
 
   -- the text of what was read is the text that was read, in lower case
   pub text-of-read : Octets t → readText t .number ≡ 0 → textOf (readText t .esi) ≡ lowerCase t

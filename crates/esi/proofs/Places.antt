@@ -5,15 +5,15 @@ use native.Mathlib.Nat.{not-suc-le-zero, le-of-suc-le-suc, mod-lt, div-add-mod, 
 use native.Mathlib.Numerals.{add-one}
 use native.Mathlib.Omega.{arith}
 use mathlib.Core.Path.{_≡_, refl, sym, ap, _∙_, subst}
-use mathlib.Core.Bool.{Bool, true, false, cond}
+use mathlib.Core.Bool.{Bool, true, false, cond, _&&_}
 use mathlib.Core.List.{List, [], _∷_}
-use lib.ListN.{length, getD, drop, length-map, drop-of-length-le, List·getD-map}
-use lib.Seq.{ext-getD, drop-cons}
+use lib.ListN.{length, getD, take, drop, length-take, length-map, drop-of-length-le, List·getD-map}
+use lib.Seq.{ext-getD, drop-cons, getD-take}
 use lib.Arith.{digits-div, digits-mod}
 use lib.Dec.{ltb, eqb}
 use borrow.Author.Tests.{eq-eqb, ne-eqb, eqb-true, lt-ltb, ltb-true}
 use Rattle.octets.proofs.Laws.{Octets, octets-nil, octets-cons}
-use Rattle.esi.specs.Text.{digitValue, digitOf, rightAt, wrongFrom, tabulate, octetAt, esiIn, textAt, textOf, lower, lowerCase}
+use Rattle.esi.specs.Text.{digitValue, digitOf, rightAt, wrongFrom, firstWrong, rightIn, FirstFault, tabulate, octetAt, esiIn, textAt, textOf, lower, lowerCase}
 use Rattle.esi.proofs.Digits.{value-digit, digit-value}
 
 -- ---- a list by its places
@@ -99,6 +99,71 @@ right-after [] i r = sym (add-zero i)
 right-after (c ∷ t) i r =
     rw (rw add-zero at (r 0 (omega arith)))
     (right-after t (suc i) (λ k h. subst (λ (n : ℕ). rightAt n (getD t k 0) ≡ true) (omega arith) (r (suc k) (omega arith))) ∙ omega arith)
+
+cond-past : (b : Bool) (x i k : ℕ) → i + k < cond b x i → b ≡ true
+cond-past true x i k h = refl
+cond-past false x i k h = absurd (omega arith)
+
+-- before the first wrong place each character is there and right
+wrong-before : (t : List ℕ) (i k : ℕ) → i + k < wrongFrom i t → (k < length t) × (rightAt (i + k) (getD t k 0) ≡ true)
+unfolding wrongFrom
+wrong-before [] i k h = absurd (omega arith)
+wrong-before (c ∷ t) i zero h = (omega arith, rw add-zero (cond-past (rightAt i c) (wrongFrom (suc i) t) i 0 h))
+wrong-before (c ∷ t) i (suc k) h =
+    let r = cond-past (rightAt i c) (wrongFrom (suc i) t) i (suc k) h in
+    let step : i + suc k ≡ suc i + k = omega arith in
+    let rest = wrong-before t (suc i) k (rw (r, step) at h) in
+    (omega (arith, rest .0), rw step (rest .1))
+
+cond-from : (b : Bool) (x i : ℕ) → suc i ≤ x → i ≤ cond b x i
+cond-from true x i h = omega arith
+cond-from false x i h = omega arith
+
+wrong-from : (t : List ℕ) (i : ℕ) → i ≤ wrongFrom i t
+unfolding wrongFrom
+wrong-from [] i = omega arith
+wrong-from (c ∷ t) i = cond-from (rightAt i c) (wrongFrom (suc i) t) i (wrong-from t (suc i))
+
+cond-still : (b : Bool) (x i : ℕ) → suc i ≤ x → cond b x i ≡ i → b ≡ false
+cond-still true x i h e = absurd (omega arith)
+cond-still false x i h e = refl
+
+-- and at it the character is missing or wrong
+wrong-at : (t : List ℕ) (i k : ℕ) → wrongFrom i t ≡ i + k → k < length t → rightAt (i + k) (getD t k 0) ≡ false
+unfolding wrongFrom
+wrong-at [] i k e h = absurd (not-suc-le-zero h)
+wrong-at (c ∷ t) i zero e h = rw add-zero (cond-still (rightAt i c) (wrongFrom (suc i) t) i (wrong-from t (suc i)) (e ∙ add-zero i))
+wrong-at (c ∷ t) i (suc k) e h =
+    let r = cond-first (rightAt i c) (wrongFrom (suc i) t) i (i + suc k) e (λ n. omega arith) in
+    let step : i + suc k ≡ suc i + k = omega arith in
+    rw step (wrong-at t (suc i) k ((rw r at e) ∙ step) (le-of-suc-le-suc h))
+
+-- the first wrong place among the first 29 is the first fault
+pub first-fault : (t : List ℕ) → FirstFault t (firstWrong t)
+unfolding firstWrong rightIn
+first-fault t = (before, at)
+  where
+    w : ℕ
+    w = wrongFrom 0 (take 29 t)
+
+    before : (i : ℕ) → i < w → (ltb i 29 && (ltb i (length t) && rightAt i (getD t i 0))) ≡ true
+    before i h =
+        let p = wrong-before (take 29 t) 0 i (rw zero-add h) in
+        let l : i < length (take 29 t) = p .0 in
+        let n : i < 29 = omega (arith, length-take 29 t) in
+        let m : i < length t = omega (arith, length-take 29 t) in
+        rw (lt-ltb i 29 n, lt-ltb i (length t) m) (rw (zero-add i, getD-take 29 t i 0 n) at (p .1))
+
+    go : (a b : Bool) → ltb w 29 ≡ a → ltb w (length t) ≡ b → (a && (b && rightAt w (getD t w 0))) ≡ false
+    go false b p q = refl
+    go true false p q = refl
+    go true true p q =
+        let n : w < 29 = ltb-true w 29 p in
+        let m : w < length t = ltb-true w (length t) q in
+        rw (zero-add w, getD-take 29 t w 0 n) at (wrong-at (take 29 t) 0 w (sym (zero-add w)) (omega (arith, length-take 29 t)))
+
+    at : (ltb w 29 && (ltb w (length t) && rightAt w (getD t w 0))) ≡ false
+    at = go (ltb w 29) (ltb w (length t)) refl refl
 
 -- none of a text's characters is wrong exactly if the first wrong place is its end
 pub right-each : (t : List ℕ) → wrongFrom 0 t ≡ length t → (i : ℕ) → i < length t → rightAt i (getD t i 0) ≡ true

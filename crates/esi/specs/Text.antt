@@ -4,14 +4,16 @@
 --   digitValue c        == the number of the digit c, which is one of 0-9, a-f, A-F; 16 where c is no digit
 --   rightAt i c         == whether c may stand at place i: a colon where i % 3 is 2, else a digit
 --   wrongFrom i t       == the first place of a wrong character, where t stands from place i on; the place after t if there is none
---   firstWrong t        == the first place of a wrong character among the first 29; if there is none, the place after these
+--   firstWrong t        == the first place of a wrong character among the first 29; else the length of t if that is under 29, else 29
+--   rightIn t i         == whether a right character stands at place i of t: i is one of the 29 places, and the character there is neither missing nor wrong
+--   FirstFault t p      == the characters of t before place p are right, and the one at p is not: it is wrong, or missing, or one too many
 --   wellFormed t        == whether t is 29 characters and none is wrong
 --   tabulate n f        == f 0, f 1, and so on, n of them
 --   octetAt t k         == octet k of the identifier that t says
 --   esiIn t             == the identifier that t says
 --   accepted s          == the answer with the identifier s
---   refused n           == the refusal n, with ten zeros
---   readText t          == the answer for the text t
+--   refused n p         == the refusal n, with the place p and ten zeros
+--   readText t          == the answer for the text t; with 13 its place is that of the first fault (document 02, M-103), else it is 0
 --   digitOf n           == the digit of the number n, in lower case
 --   textAt s i          == the character at place i of the text of the identifier s
 --   textOf s            == the text of the identifier s
@@ -19,8 +21,9 @@
 --   lowerCase t         == t with each such digit in lower case
 --   writeTextNumber n s == the number answered for writing the identifier s into a buffer of n characters
 --   textWritten d s     == the buffer d after that
-use Prim.Native.Nat.{ℕ, zero, suc, _+_, _-_, _*_, _/_, _%_}
-use mathlib.Core.Bool.{Bool, cond, not, _&&_}
+use Prim.Native.Nat.{ℕ, zero, suc, _+_, _-_, _*_, _/_, _%_, _<_}
+use mathlib.Core.Path.{_≡_}
+use mathlib.Core.Bool.{Bool, true, false, cond, not, _&&_}
 use mathlib.Core.List.{List, [], _∷_, _++_, map}
 use lib.ListN.{length, getD, take, drop, replicate}
 use lib.Dec.{leb, ltb, eqb}
@@ -44,6 +47,13 @@ wrongFrom i (c ∷ t) = cond (rightAt i c) (wrongFrom (suc i) t) i
 unfoldable pub firstWrong : List ℕ → ℕ
 firstWrong t = wrongFrom 0 (take 29 t)
 
+-- what the place of a refused text tells the person who reads it
+unfoldable pub rightIn : List ℕ → ℕ → Bool
+rightIn t i = ltb i 29 && (ltb i (length t) && rightAt i (getD t i 0))
+
+abbrev pub FirstFault : List ℕ → ℕ → Type 0
+FirstFault t p = ((i : ℕ) → i < p → rightIn t i ≡ true) × (rightIn t p ≡ false)
+
 unfoldable pub wellFormed : List ℕ → Bool
 wellFormed t = eqb (length t) 29 && eqb (firstWrong t) 29
 
@@ -58,13 +68,13 @@ unfoldable pub esiIn : List ℕ → List ℕ
 esiIn t = tabulate 10 (octetAt t)
 
 abbrev pub accepted : List ℕ → TextRead
-accepted s = record { number = 0; esi = s }
+accepted s = record { number = 0; place = 0; esi = s }
 
-abbrev pub refused : ℕ → TextRead
-refused n = record { number = n; esi = replicate 10 0 }
+abbrev pub refused : ℕ → ℕ → TextRead
+refused n p = record { number = n; place = p; esi = replicate 10 0 }
 
 unfoldable pub readText : List ℕ → TextRead
-readText t = cond (not (wellFormed t)) (refused 13) (cond (reserved (esiIn t)) (refused 4) (accepted (esiIn t)))
+readText t = cond (not (wellFormed t)) (refused 13 (firstWrong t)) (cond (reserved (esiIn t)) (refused 4 0) (accepted (esiIn t)))
 
 unfoldable pub digitOf : ℕ → ℕ
 digitOf n = cond (ltb n 10) (48 + n) (87 + n)

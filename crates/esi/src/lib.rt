@@ -5,6 +5,7 @@ ghost use mathlib.Core.Bool.{true};
 ghost use lib.ListN.{length, take};
 ghost use Rattle.esi.specs.Reserved.{reserved};
 ghost use Rattle.esi.specs.Text.{
+  FirstFault,
   accepted,
   digitOf,
   digitValue,
@@ -40,9 +41,11 @@ const NOT_A_TEXT: u8 = 13;
 // and a buffer that is too short.
 const BUFFER_SHORT: u8 = 14;
 
-// What reading a text gives: 0 and the identifier, or a refusal number and ten zeros.
+// What reading a text gives: 0, place 0 and the identifier, or a refusal number, a place and ten zeros. With 13 the place is that of the
+// first fault, with 4 it is 0.
 pub struct TextRead {
     pub number: u8,
+    pub place: usize,
     pub esi: [u8; 10],
 }
 
@@ -81,7 +84,7 @@ fn right_at(i: usize, c: u8) -> bool
     digit_value(c) < 16
 }
 
-// The place of the first wrong character among the first 29, or the place after these.
+// The place of the first wrong character among the first 29; else the text's length if that is under 29, else 29.
 fn first_wrong(text: &[u8]) -> usize
     ensures { λ r. ⌜ r ≡ firstWrong (now (text .entry)) ⌝ }
 {
@@ -120,35 +123,39 @@ fn esi_in(text: &[u8]) -> [u8; 10]
     esi
 }
 
-// A refusal, with ten zeros for the identifier.
-fn refusal(number: u8) -> TextRead
-    ensures { λ r. ⌜ r ≡ refused number ⌝ }
+// A refusal at a place, with ten zeros for the identifier.
+fn refusal(number: u8, place: usize) -> TextRead
+    ensures { λ r. ⌜ r ≡ refused number place ⌝ }
 {
     TextRead {
         number: number,
+        place: place,
         esi: [0; 10],
     }
 }
 
 // Reads the text of an identifier: 13 unless it is 29 characters, ten pairs of digits with a colon between pairs; then 4 for a
-// reserved identifier; else 0 and the identifier. The text of what was read is the text itself, in lower case.
+// reserved identifier; else 0 and the identifier. With 13 comes the place of the first fault: every character before it is right, and the one at
+// it is wrong, or missing, or one too many; else the place is 0. The text of what was read is the text itself, in lower case.
 pub fn read_text(text: &[u8]) -> TextRead
     ensures answer { λ r. ⌜ r ≡ readText (now (text .entry)) ⌝ }
+    ensures fault { λ r. ⌜ (r .number ≡ 13 → FirstFault (now (text .entry)) (r .place)) ⌝ }
     ensures round_trip { λ r. ⌜ (r .number ≡ 0 → textOf (r .esi) ≡ lowerCase (now (text .entry))) ⌝ }
 {
     let wrong = first_wrong(text);
     if text.len() != TEXT_LENGTH {
-        return refusal(NOT_A_TEXT);
+        return refusal(NOT_A_TEXT, wrong);
     }
     if wrong != TEXT_LENGTH {
-        return refusal(NOT_A_TEXT);
+        return refusal(NOT_A_TEXT, wrong);
     }
     let esi = esi_in(text);
     if is_reserved(&esi) {
-        return refusal(ESI_RESERVED);
+        return refusal(ESI_RESERVED, 0);
     }
     TextRead {
         number: 0,
+        place: 0,
         esi: esi,
     }
 }

@@ -8,7 +8,7 @@ use mathlib.Core.Bool.{Bool, true, false, cond}
 use mathlib.Core.List.{List, [], _∷_, _++_}
 use lib.ListN.{length, take, drop, length-append}
 use lib.Dec.{eqb}
-use borrow.Author.Tests.{eq-eqb, ne-eqb}
+use borrow.Author.Tests.{eq-eqb, ne-eqb, le-leb, lt-leb}
 use Rattle.election.specs.declared.Answer.{Answer}
 use Rattle.frames.specs.Frames.{Front, nothing, bad, cut, whole, front}
 use Rattle.frames.proofs.Laws.{Found, cut-begun, nothing-empty, whole-record, whole-append, bad-append}
@@ -17,13 +17,55 @@ use Rattle.lines.specs.Lines.{decimal, dotted, Put}
 use Rattle.lines.proofs.Laws.{put-made, put-place, put-all, length-decimal, length-decimal-octet, length-dotted}
 use Rattle.records.specs.declared.Bench.{Bench}
 use Rattle.records.specs.Steps.{Written}
-use Rattle.records.specs.Records.{line, badLine, electedLine, queryLine, turn, hasEnded, before, runFor, runFrom, endOf}
+use Rattle.records.specs.Records.{line, placeLine, hasPlace, readLine, badLine, electedLine, queryLine, turn, hasEnded, before, runFor, runFrom, endOf}
 
 -- ---- lines
 
 pub length-line : (c n : ℕ) → n < 256 → length (line c n) ≤ 40
 unfolding line
 length-line c n h = omega (arith, length-append (decimal n) (10 ∷ []), length-decimal-octet n h)
+
+pub length-place : (c n p : ℕ) → n < 256 → p < 2 ^ 64 → length (placeLine c n p) ≤ 40
+unfolding placeLine
+length-place c n p h l =
+    omega (
+      arith,
+      length-append (decimal n) (32 ∷ decimal p ++ (10 ∷ [])),
+      length-append (decimal p) (10 ∷ []),
+      length-decimal-octet n h,
+      length-decimal 19 p (omega arith),
+    )
+
+-- after which numbers a place is printed
+module _ (n : ℕ) where
+  pub place-first : 1 ≤ n → n ≤ 4 → hasPlace n ≡ true
+  unfolding hasPlace
+  place-first h l = rw (le-leb 1 n h, le-leb n 4 l)
+
+  pub place-6 : n ≡ 6 → hasPlace n ≡ true
+  unfolding hasPlace
+  place-6 e = rw e
+
+  pub place-13 : n ≡ 13 → hasPlace n ≡ true
+  unfolding hasPlace
+  place-13 e = rw e
+
+  pub no-place-0 : n < 1 → hasPlace n ≡ false
+  unfolding hasPlace
+  no-place-0 h = rw (lt-leb 1 n h, ne-eqb n 6 (λ z. omega arith), ne-eqb n 13 (λ z. omega arith))
+
+  pub no-place : 4 < n → (n ≡ 6 → ⊥) → (n ≡ 13 → ⊥) → hasPlace n ≡ false
+  unfolding hasPlace
+  no-place h a b = rw (le-leb 1 n (omega arith), lt-leb n 4 h, ne-eqb n 6 a, ne-eqb n 13 b)
+
+-- which line is that of what was read
+pub read-place : (c n p : ℕ) → hasPlace n ≡ true → placeLine c n p ≡ readLine c n p
+unfolding readLine
+read-place c n p h = rw h
+
+pub read-none : (c n p : ℕ) → hasPlace n ≡ false → line c n ≡ readLine c n p
+unfolding readLine
+read-none c n p h = rw h
 
 pub length-elected : (a n : ℕ) → n < 2 ^ 32 → length (electedLine a n) ≤ 40
 unfolding electedLine

@@ -22,7 +22,7 @@ use Rattle.records.specs.declared.Phase.{Phase}
 use Rattle.records.specs.declared.Phase.the-variants.{Start, Running, Ended}
 use Rattle.records.specs.declared.Bench.{Bench}
 use Rattle.records.specs.declared.Step.{Step}
-use Rattle.records.specs.Records.{Turn, line, running, ended, refused, badLine, queryLine, textTurn, announceTurn, withdrawTurn, queryTurn, laterTurn, wordsIn, turnIn, turn, first, runFrom, runOf}
+use Rattle.records.specs.Records.{Turn, line, readLine, running, ended, refused, badLine, queryLine, textTurn, announceTurn, withdrawTurn, queryTurn, laterTurn, wordsIn, turnIn, turn, first, runFrom, runOf}
 use Rattle.records.specs.Steps.{Written, Stepped}
 use Rattle.records.proofs.Laws.{written-as}
 
@@ -48,11 +48,11 @@ take-of-all n l h = take-all n l (omega arith)
 
 module _ {d : List ℕ} {at n : ℕ} {e : List ℕ} where
   pub stepped-announce : (t : Table) (p : List ℕ) (x : Change) → x ≡ announced t (take 25 p) (take (length p - 25) (drop 25 p)) → WellFormed (x .table)
-      → Written d at (line 97 (x .number)) n e → Stepped d at (announceTurn t p) (record { bench = running (x .table); at = n }) e
+      → Written d at (readLine 97 (x .number) (x .place)) n e → Stepped d at (announceTurn t p) (record { bench = running (x .table); at = n }) e
   unfolding announceTurn
   stepped-announce t p x q k w =
       let a : x ≡ announced t (take 25 p) (drop 25 p) = q ∙ ap (announced t (take 25 p)) (take-of-all (length p - 25) (drop 25 p) (length-drop 25 p)) in
-      record { put = written-as w (ap (λ (y : Change). line 97 (y .number)) a); next = ap (λ (y : Change). running (y .table)) a; kept = k }
+      record { put = written-as w (ap (λ (y : Change). readLine 97 (y .number) (y .place)) a); next = ap (λ (y : Change). running (y .table)) a; kept = k }
 
   pub stepped-withdraw : (t : Table) (p : List ℕ) (x : Change) → x ≡ withdrawn t (numberOf p) → WellFormed (x .table)
       → Written d at (line 119 (x .number)) n e → Stepped d at (withdrawTurn t p) (record { bench = running (x .table); at = n }) e
@@ -60,12 +60,12 @@ module _ {d : List ℕ} {at n : ℕ} {e : List ℕ} where
   stepped-withdraw t p x q k w =
       record { put = written-as w (ap (λ (y : Change). line 119 (y .number)) q); next = ap (λ (y : Change). running (y .table)) q; kept = k }
 
-  module _ (t : Table) (p : List ℕ) (x : TextRead) (q : x ≡ readText p) (w : Written d at (line 112 (x .number)) n e) where
+  module _ (t : Table) (p : List ℕ) (x : TextRead) (q : x ≡ readText p) (w : Written d at (readLine 112 (x .number) (x .place)) n e) where
     pub stepped-end : WellFormed t → (x .number ≡ 0 → ⊥) → Stepped d at (textTurn t p) (record { bench = ended t; at = n }) e
     unfolding textTurn
     stepped-end k h =
         let m = ap (λ (y : TextRead). y .number) q in
-        record { put = written-as w (ap (line 112) m); next = rw (ne-eqb (readText p .number) 0 (λ z. h (m ∙ z))); kept = k }
+        record { put = written-as w (ap (λ (z : TextRead). readLine 112 (z .number) (z .place)) q); next = rw (ne-eqb (readText p .number) 0 (λ z. h (m ∙ z))); kept = k }
 
     pub stepped-begin : (y : Change) → x .number ≡ 0 → y ≡ freshTable (x .esi) → WellFormed (y .table)
         → Stepped d at (textTurn t p) (record { bench = running (y .table); at = n }) e
@@ -73,7 +73,7 @@ module _ {d : List ℕ} {at n : ℕ} {e : List ℕ} where
     stepped-begin y h f k =
         let m = ap (λ (z : TextRead). z .number) q in
         let i = ap (λ (z : TextRead). z .esi) q in
-        record { put = written-as w (ap (line 112) m); next = rw (eq-eqb (readText p .number) 0 (sym m ∙ h), ← i, ← f); kept = k }
+        record { put = written-as w (ap (λ (z : TextRead). readLine 112 (z .number) (z .place)) q); next = rw (eq-eqb (readText p .number) 0 (sym m ∙ h), ← i, ← f); kept = k }
 
   pub stepped-query : (t : Table) (p : List ℕ) (x : Answer) (tag : ℕ) (ready : List ℕ) → tag ≡ numberOf (take 4 p) → ready ≡ wordsIn (drop 4 p)
       → x ≡ electOf (t .esi) (live t) tag ready → WellFormed t → Written d at (queryLine x) n e

@@ -2,6 +2,9 @@
 -- Letters and signs are octets: `a` 97, `p` 112, `q` 113, `w` 119, `x` 120, space 32, newline 10.
 --   Turn               == what one record does: the line that is printed, and the state after it
 --   line c n           == the line of the letter c and the number n
+--   placeLine c n p    == the line of the letter c, the number n and the place p
+--   hasPlace n         == whether a place is printed after the number n: after 1 to 4, 6 and 13 (document 02, M-103)
+--   readLine c n p     == the line of the letter c for what was read: the number n, and the place p where one is printed
 --   badLine            == the line `x 16`
 --   electedLine a n    == the line of an accepted query
 --   queryLine r        == the line of the election's answer r
@@ -25,7 +28,7 @@
 --   runOf s            == the whole output for the input s
 --   endOf b s          == what is printed where the input ends with the octets s, which are no whole record
 use Prim.Native.Nat.{ℕ, zero, suc, _%_}
-use mathlib.Core.Bool.{Bool, true, false, cond, _&&_}
+use mathlib.Core.Bool.{Bool, true, false, cond, _&&_, _||_}
 use mathlib.Core.List.{List, [], _∷_, _++_}
 use lib.ListN.{length, take, drop, replicate}
 use lib.Dec.{leb, eqb}
@@ -48,6 +51,15 @@ pub record Turn : Type 0 where
 -- LINES
 unfoldable pub line : ℕ → ℕ → List ℕ
 line c n = (c ∷ []) ++ ((32 ∷ []) ++ (decimal n ++ (10 ∷ [])))
+
+unfoldable pub placeLine : ℕ → ℕ → ℕ → List ℕ
+placeLine c n p = (c ∷ []) ++ ((32 ∷ []) ++ (decimal n ++ ((32 ∷ []) ++ (decimal p ++ (10 ∷ [])))))
+
+unfoldable pub hasPlace : ℕ → Bool
+hasPlace n = (leb 1 n && leb n 4) || (eqb n 6 || eqb n 13)
+
+unfoldable pub readLine : ℕ → ℕ → ℕ → List ℕ
+readLine c n p = cond (hasPlace n) (placeLine c n p) (line c n)
 
 abbrev pub badLine : List ℕ
 badLine = 120 ∷ 32 ∷ 49 ∷ 54 ∷ 10 ∷ []
@@ -73,13 +85,13 @@ refused t = record { line = badLine; next = ended t }
 -- a refused plate prints its line and ends
 unfoldable pub textTurn : Table → List ℕ → Turn
 textTurn t p = record {
-  line = line 112 (readText p .number);
+  line = readLine 112 (readText p .number) (readText p .place);
   next = cond (eqb (readText p .number) 0) (running (freshTable (readText p .esi) .table)) (ended t);
 }
 
 unfoldable pub announceTurn : Table → List ℕ → Turn
 announceTurn t p = record {
-  line = line 97 (announced t (take 25 p) (drop 25 p) .number);
+  line = readLine 97 (announced t (take 25 p) (drop 25 p) .number) (announced t (take 25 p) (drop 25 p) .place);
   next = running (announced t (take 25 p) (drop 25 p) .table);
 }
 

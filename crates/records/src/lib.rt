@@ -13,6 +13,9 @@ ghost use Rattle.table.specs.Table.{WellFormed};
 ghost use Rattle.lines.specs.Lines.{Put};
 ghost use Rattle.records.specs.Records.{
   line,
+  placeLine,
+  hasPlace,
+  readLine,
   electedLine,
   queryLine,
   refused,
@@ -74,6 +77,42 @@ fn put_line(out: &mut [u8], at: usize, letter: u8, number: u8) -> usize
     lines::put_octet(out, end, b'\n')
 }
 
+// Puts the line of a letter, a number and a place.
+fn put_place(out: &mut [u8], at: usize, letter: u8, number: u8, place: usize) -> usize
+    requires { ⌜ at + 40 ≤ length (now out) ⌝ }
+    ensures { λ r. ⌜ Written (now (out .entry)) at (placeLine letter number place) r (now (out .exit)) ⌝ }
+{
+    let mut end = lines::put_octet(out, at, letter);
+    end = lines::put_octet(out, end, b' ');
+    end = lines::put_decimal(out, end, number as u64);
+    end = lines::put_octet(out, end, b' ');
+    end = lines::put_decimal(out, end, place as u64);
+    lines::put_octet(out, end, b'\n')
+}
+
+// Whether a place is printed after a number: after 1 to 4, 6 and 13.
+fn has_place(number: u8) -> bool
+    ensures { λ r. ⌜ r ≡ hasPlace number ⌝ }
+{
+    match number {
+        1..=4 => true,
+        6 => true,
+        13 => true,
+        _ => false,
+    }
+}
+
+// Puts the line for what was read: its number, and its place where one is printed.
+fn put_read(out: &mut [u8], at: usize, letter: u8, number: u8, place: usize) -> usize
+    requires { ⌜ at + 40 ≤ length (now out) ⌝ }
+    ensures { λ r. ⌜ Written (now (out .entry)) at (readLine letter number place) r (now (out .exit)) ⌝ }
+{
+    if has_place(number) {
+        return put_place(out, at, letter, number, place);
+    }
+    put_line(out, at, letter, number)
+}
+
 // Puts the line of an accepted query.
 fn put_elected(out: &mut [u8], at: usize, address: u32, n: u32) -> usize
     requires { ⌜ at + 40 ≤ length (now out) ⌝ }
@@ -122,7 +161,8 @@ fn begin(t: Table, text: &[u8], out: &mut [u8], at: usize) -> Step
 {
     let read = esi::read_text(text);
     let number = read.number;
-    let end = put_line(out, at, b'p', number);
+    let place = read.place;
+    let end = put_read(out, at, b'p', number, place);
     if number != 0 {
         return Step {
             bench: Bench {
@@ -151,7 +191,8 @@ fn announce(t: Table, payload: &[u8], out: &mut [u8], at: usize) -> Step
 {
     let change = table::announce(t, &payload[..25], &payload[25..]);
     let number = change.number;
-    let end = put_line(out, at, b'a', number);
+    let place = change.place;
+    let end = put_read(out, at, b'a', number, place);
     let u = change.table;
     Step {
         bench: Bench {

@@ -1,80 +1,113 @@
 -- Laws of `specs/Route.antt`: which check gives the number, what an accepted route has, and that a written route reads back. Assumes nothing.
 use Prim.Native.Nat.{ℕ, suc, _+_, _≤_, _<_, _^_}
 use native.Mathlib.Omega.{arith}
-use mathlib.Core.Path.{_≡_, refl, ap, ap₂, sym, _∙_}
+use mathlib.Core.Path.{_≡_, refl, ap, ap₂, sym, _∙_, subst}
 use mathlib.Core.Bool.{Bool, true, false, cond, not, _||_}
 use mathlib.Core.List.{List, [], _∷_, _++_, append-assoc}
 use lib.ListN.{length, getD, take, drop, replicate, length-append, length-drop}
 use lib.Seq.{take-at, take-all, drop-at, drop-drop, getD-drop, length-take-le}
 use lib.Dec.{ltb, eqb}
-use borrow.Author.Tests.{eq-eqb, ne-eqb, eqb-true, eqb-false, le-ltb, lt-ltb}
+use borrow.Author.Tests.{eq-eqb, ne-eqb, eqb-true, eqb-false, le-ltb, lt-ltb, ltb-true, ltb-false}
 use Rattle.octets.specs.Octets.{numberOf, octetsOf, stored}
 use Rattle.octets.proofs.Laws.{elements, take-elements, length-octets, number-octets-small, stored-front, stored-all, stored-stored}
 use Rattle.address.specs.Address.{isZero}
 use Rattle.esi.specs.Reserved.{reserved}
 use Rattle.esi.proofs.Laws.{length-not-reserved}
-use Rattle.route.specs.Route.{routeDistinguisher, routeEsi, routeAddress, routeNumber, checkedNumber, routeChecked, readAs, readRoute, routeOctets, writeRouteNumber, routeWritten}
+use Rattle.route.specs.Route.{routeDistinguisher, routeEsi, routeAddress, routeNumber, placeOf, routePlace, Fault, none, total, lengthOctet, type, bits, identifier, zeroAddress, checkedNumber, checkedPlace, routeChecked, readAs, readRoute, routeOctets, writeRouteNumber, routeWritten}
+use Rattle.route.specs.declared.RouteRead.{RouteRead}
 use Rattle.route.specs.declared.Checked.{Checked}
 use Rattle.route.specs.declared.Checked.the-variants.{Originator, Refused}
 
 -- WHAT THE CHECK ANSWERS
 module _ (s : List ℕ) where
   abbrev pub Answers : Checked → Type 0
-  Answers c = (c ≡ routeChecked s) × (checkedNumber c ≡ routeNumber s)
+  Answers c = (c ≡ routeChecked s) × ((checkedNumber c ≡ routeNumber s) × ((checkedPlace c ≡ routePlace s) × Fault s (checkedNumber c) (checkedPlace c)))
 
-  refused : (n : ℕ) → suc n ≡ routeNumber s → Answers (Refused (suc n))
+  refused : (n p : ℕ) → suc n ≡ routeNumber s → p ≡ placeOf (suc n) s → Fault s (suc n) p → Answers (Refused (suc n) p)
   unfolding routeChecked
-  refused n e = (rw (← e, ne-eqb (suc n) 0 (λ z. omega arith)), e)
+  refused n p e q f = (rw (← e, q, ne-eqb (suc n) 0 (λ z. omega arith)), (e, (q ∙ ap (λ (m : ℕ). placeOf m s) e, f)))
 
   accepted : (a : ℕ) → a ≡ routeAddress s → 0 ≡ routeNumber s → Answers (Originator a)
-  unfolding routeChecked
-  accepted a q e = (rw (← e, q), e)
+  unfolding routeChecked placeOf
+  accepted a q e = (rw (← e, q), (e, (rw (← e), none refl refl)))
 
-  pub short : length s < 21 → Answers (Refused 1)
+  wrong-total : (length s ≡ 25 → ⊥) → 1 ≡ routeNumber s → Answers (Refused 1 (length s))
+  unfolding placeOf
+  wrong-total n e = refused 0 (length s) e (rw (ne-eqb (length s) 25 n)) (total refl refl n)
+
+  pub short : length s < 21 → Answers (Refused 1 (length s))
   unfolding routeNumber
-  short h = refused 0 (rw (lt-ltb _ _ h))
+  short h = wrong-total (λ e. omega arith) (rw (lt-ltb _ _ h))
 
   module _ (l : 21 ≤ length s) where
-    pub not-type : (getD s 0 0 ≡ 4 → ⊥) → Answers (Refused 2)
-    unfolding routeNumber
-    not-type n = refused 1 (rw (le-ltb _ _ l, ne-eqb _ _ n))
+    pub not-type : (getD s 0 0 ≡ 4 → ⊥) → Answers (Refused 2 0)
+    unfolding routeNumber placeOf
+    not-type n = refused 1 0 (rw (le-ltb _ _ l, ne-eqb _ _ n)) refl (type refl refl n)
 
     module _ (t : getD s 0 0 ≡ 4) where
-      pub not-bits : (getD s 20 0 ≡ 32 → ⊥) → Answers (Refused 3)
-      unfolding routeNumber
-      not-bits n = refused 2 (rw (le-ltb _ _ l, eq-eqb _ _ t, ne-eqb _ _ n))
+      pub not-bits : (getD s 20 0 ≡ 32 → ⊥) → Answers (Refused 3 20)
+      unfolding routeNumber placeOf
+      not-bits n = refused 2 20 (rw (le-ltb _ _ l, eq-eqb _ _ t, ne-eqb _ _ n)) refl (bits refl refl n)
 
       module _ (b : getD s 20 0 ≡ 32) where
-        pub not-total : (length s ≡ 25 → ⊥) → Answers (Refused 1)
+        pub not-total : (length s ≡ 25 → ⊥) → Answers (Refused 1 (length s))
         unfolding routeNumber
-        not-total n = refused 0 (rw (le-ltb _ _ l, eq-eqb _ _ t, eq-eqb _ _ b, ne-eqb _ _ n))
+        not-total n = wrong-total n (rw (le-ltb _ _ l, eq-eqb _ _ t, eq-eqb _ _ b, ne-eqb _ _ n))
 
         module _ (w : length s ≡ 25) where
-          pub not-length : (getD s 1 0 ≡ 23 → ⊥) → Answers (Refused 1)
-          unfolding routeNumber
-          not-length n = refused 0 (rw (le-ltb _ _ l, eq-eqb _ _ t, eq-eqb _ _ b, eq-eqb _ _ w, ne-eqb _ _ n))
+          pub not-length : (getD s 1 0 ≡ 23 → ⊥) → Answers (Refused 1 1)
+          unfolding routeNumber placeOf
+          not-length n =
+              refused 0 1 (rw (le-ltb _ _ l, eq-eqb _ _ t, eq-eqb _ _ b, eq-eqb _ _ w, ne-eqb _ _ n)) (rw (eq-eqb (length s) 25 w)) (lengthOctet refl refl w n)
 
           module _ (m : getD s 1 0 ≡ 23) where
             number-last : routeNumber s ≡ cond (reserved (routeEsi s)) 4 (cond (isZero (routeAddress s)) 6 0)
             unfolding routeNumber
             number-last = rw (le-ltb _ _ l, eq-eqb _ _ t, eq-eqb _ _ b, eq-eqb _ _ w, eq-eqb _ _ m)
 
-            pub reserved-esi : reserved (take 10 (drop 10 s)) ≡ true → Answers (Refused 4)
-            unfolding routeEsi
-            reserved-esi r = refused 3 (sym (number-last ∙ rw r))
+            pub reserved-esi : reserved (take 10 (drop 10 s)) ≡ true → Answers (Refused 4 10)
+            unfolding routeEsi placeOf
+            reserved-esi r = refused 3 10 (sym (number-last ∙ rw r)) refl (identifier refl refl r)
 
             module _ (r : reserved (take 10 (drop 10 s)) ≡ false) (a : ℕ) (q : a ≡ numberOf (elements 4 21 s)) where
+              is-field : a ≡ numberOf (take 4 (drop 21 s))
+              is-field = q ∙ ap numberOf (sym (take-elements 4 21 s (omega arith)))
+
               is-address : a ≡ routeAddress s
               unfolding routeAddress
-              is-address = q ∙ ap numberOf (sym (take-elements 4 21 s (omega arith)))
+              is-address = is-field
 
-              pub zero-address : isZero a ≡ true → Answers (Refused 6)
-              unfolding routeEsi
-              zero-address z = refused 5 (sym (number-last ∙ rw (r, ← is-address, z)))
+              pub zero-address : isZero a ≡ true → Answers (Refused 6 21)
+              unfolding routeEsi placeOf
+              zero-address z = refused 5 21 (sym (number-last ∙ rw (r, ← is-address, z))) refl (zeroAddress refl refl (ap isZero (sym is-field) ∙ z))
 
               pub originator : isZero a ≡ false → Answers (Originator a)
               unfolding routeEsi
               originator z = accepted a is-address (sym (number-last ∙ rw (r, ← is-address, z)))
+
+-- what the place of every route tells
+module _ (s : List ℕ) where
+  told-fault : (c : Checked) → Answers s c → Fault s (routeNumber s) (routePlace s)
+  told-fault c a = subst (λ (n : ℕ). Fault s n (routePlace s)) (a .1 .0) (subst (Fault s (checkedNumber c)) (a .1 .1 .0) (a .1 .1 .1))
+
+  by-tests : (short? type? bits? total? octet? reserved? zero? : Bool) → ltb (length s) 21 ≡ short? → eqb (getD s 0 0) 4 ≡ type? → eqb (getD s 20 0) 32 ≡ bits?
+      → eqb (length s) 25 ≡ total? → eqb (getD s 1 0) 23 ≡ octet? → reserved (take 10 (drop 10 s)) ≡ reserved? → isZero (numberOf (elements 4 21 s)) ≡ zero?
+      → Fault s (routeNumber s) (routePlace s)
+  by-tests true b c d e f g h i j k l m n = told-fault _ (short s (ltb-true _ _ h))
+  by-tests false false c d e f g h i j k l m n = told-fault _ (not-type s (ltb-false _ _ h) (eqb-false _ _ i))
+  by-tests false true false d e f g h i j k l m n = told-fault _ (not-bits s (ltb-false _ _ h) (eqb-true _ _ i) (eqb-false _ _ j))
+  by-tests false true true false e f g h i j k l m n = told-fault _ (not-total s (ltb-false _ _ h) (eqb-true _ _ i) (eqb-true _ _ j) (eqb-false _ _ k))
+  by-tests false true true true false f g h i j k l m n =
+      told-fault _ (not-length s (ltb-false _ _ h) (eqb-true _ _ i) (eqb-true _ _ j) (eqb-true _ _ k) (eqb-false _ _ l))
+  by-tests false true true true true true g h i j k l m n =
+      told-fault _ (reserved-esi s (ltb-false _ _ h) (eqb-true _ _ i) (eqb-true _ _ j) (eqb-true _ _ k) (eqb-true _ _ l) m)
+  by-tests false true true true true false true h i j k l m n =
+      told-fault _ (zero-address s (ltb-false _ _ h) (eqb-true _ _ i) (eqb-true _ _ j) (eqb-true _ _ k) (eqb-true _ _ l) m _ refl n)
+  by-tests false true true true true false false h i j k l m n =
+      told-fault _ (originator s (ltb-false _ _ h) (eqb-true _ _ i) (eqb-true _ _ j) (eqb-true _ _ k) (eqb-true _ _ l) m _ refl n)
+
+  pub route-fault : Fault s (routeNumber s) (routePlace s)
+  route-fault = by-tests _ _ _ _ _ _ _ refl refl refl refl refl refl refl
 
 -- what an accepted route has: each check that is passed, from the number alone
 passed : (b : Bool) (n m : ℕ) → cond b (suc n) m ≡ 0 → (b ≡ false) × (m ≡ 0)
@@ -110,43 +143,64 @@ module _ (s : List ℕ) (h : routeNumber s ≡ 0) where
   length-esi = length-not-reserved (routeEsi s) route-esi
 
 -- what the check's answer says
-originator-told : (n a b : ℕ) (e : Bool) → cond e (Originator a) (Refused n) ≡ Originator b → (e ≡ true) × (b ≡ a)
-originator-told n a b true h = (refl, cc)
-originator-told n a b false h = let z : _≡_ {A = ℕ} 0 1 = cc in absurd (omega arith)
+originator-told : (n p a b : ℕ) (e : Bool) → cond e (Originator a) (Refused n p) ≡ Originator b → (e ≡ true) × (b ≡ a)
+originator-told n p a b true h = (refl, cc)
+originator-told n p a b false h = let z : _≡_ {A = ℕ} 0 1 = cc in absurd (omega arith)
 
-refused-told : (n a m : ℕ) (e : Bool) → cond e (Originator a) (Refused n) ≡ Refused m → (e ≡ false) × (m ≡ n)
-refused-told n a m true h = let z : _≡_ {A = ℕ} 0 1 = cc in absurd (omega arith)
-refused-told n a m false h = (refl, cc)
+refused-told : (n p a m q : ℕ) (e : Bool) → cond e (Originator a) (Refused n p) ≡ Refused m q → (e ≡ false) × ((m ≡ n) × (q ≡ p))
+refused-told n p a m q true h = let z : _≡_ {A = ℕ} 0 1 = cc in absurd (omega arith)
+refused-told n p a m q false h = (refl, (cc, cc))
 
 module _ (s : List ℕ) where
+  -- an accepted route has place 0
+  pub place-accepted : routeNumber s ≡ 0 → routePlace s ≡ 0
+  unfolding placeOf
+  place-accepted h = rw h
+
   pub told-originator : (a : ℕ) → routeChecked s ≡ Originator a → (routeNumber s ≡ 0) × (a ≡ routeAddress s)
   unfolding routeChecked
   told-originator a h =
-      let t = originator-told (routeNumber s) (routeAddress s) a (eqb (routeNumber s) 0) h in
+      let t = originator-told (routeNumber s) (routePlace s) (routeAddress s) a (eqb (routeNumber s) 0) h in
       (eqb-true (routeNumber s) 0 (t .0), t .1)
 
-  pub told-refused : (n : ℕ) → routeChecked s ≡ Refused n → (routeNumber s ≡ 0 → ⊥) × (n ≡ routeNumber s)
+  pub told-refused : (n p : ℕ) → routeChecked s ≡ Refused n p → (routeNumber s ≡ 0 → ⊥) × ((n ≡ routeNumber s) × (p ≡ routePlace s))
   unfolding routeChecked
-  told-refused n h =
-      let t = refused-told (routeNumber s) (routeAddress s) n (eqb (routeNumber s) 0) h in
+  told-refused n p h =
+      let t = refused-told (routeNumber s) (routePlace s) (routeAddress s) n p (eqb (routeNumber s) 0) h in
       (eqb-false (routeNumber s) 0 (t .0), t .1)
 
   -- WHAT THE READER ANSWERS
-  pub read-refused : (n : ℕ) → routeChecked s ≡ Refused n → readAs n (replicate 8 0) (replicate 10 0) 0 ≡ readRoute s
+  read-refused : (n p : ℕ) → routeChecked s ≡ Refused n p → readAs n p (replicate 8 0) (replicate 10 0) 0 ≡ readRoute s
   unfolding readRoute
-  read-refused n h = let t = told-refused n h in rw (ne-eqb (routeNumber s) 0 (t .0), t .1)
+  read-refused n p h = let t = told-refused n p h in rw (ne-eqb (routeNumber s) 0 (t .0), t .1 .0, t .1 .1)
 
-  pub read-accepted : (a : ℕ) (d e : List ℕ) → routeChecked s ≡ Originator a
+  -- the same with what the place tells, from the check's answer
+  abbrev pub Reads : RouteRead → Type 0
+  Reads x = (x ≡ readRoute s) × Fault s (x .number) (x .place)
+
+  pub reads-refused : (k : Checked) (n p m q : ℕ) → Answers s k → k ≡ Refused n p → m ≡ checkedNumber k → q ≡ checkedPlace k
+      → Reads (readAs m q (replicate 8 0) (replicate 10 0) 0)
+  reads-refused k n p m q a t e f =
+      let e' : m ≡ n = e ∙ ap checkedNumber t in
+      let f' : q ≡ p = f ∙ ap checkedPlace t in
+      (rw (e', f') (read-refused n p (sym (a .0) ∙ t)), rw (e, f) (a .1 .1 .1))
+
+  read-accepted : (a : ℕ) (d e : List ℕ) → routeChecked s ≡ Originator a
       → d ≡ stored (replicate 8 0) 0 (take 8 (drop 2 s)) → e ≡ stored (replicate 10 0) 0 (take 10 (drop 10 s))
-      → readAs 0 d e a ≡ readRoute s
+      → readAs 0 0 d e a ≡ readRoute s
   unfolding readRoute routeDistinguisher routeEsi
   read-accepted a d e h p q =
       let t = told-originator a h in
       let l : length s ≡ 25 = route-length s (t .0) in
       rw (eq-eqb (routeNumber s) 0 (t .0), p, q, t .1)
-      (ap₂ (λ (x y : List ℕ). readAs 0 x y (routeAddress s))
+      (ap₂ (λ (x y : List ℕ). readAs 0 0 x y (routeAddress s))
       (stored-all (replicate 8 0) (take 8 (drop 2 s)) (length-take-le 8 (drop 2 s) (simp length-drop (omega arith))))
       (stored-all (replicate 10 0) (take 10 (drop 10 s)) (length-take-le 10 (drop 10 s) (simp length-drop (omega arith)))))
+
+  pub reads-accepted : (a : ℕ) (d e : List ℕ) → routeChecked s ≡ Originator a
+      → d ≡ stored (replicate 8 0) 0 (take 8 (drop 2 s)) → e ≡ stored (replicate 10 0) 0 (take 10 (drop 10 s))
+      → Reads (readAs 0 0 d e a)
+  reads-accepted a d e h p q = (read-accepted a d e h p q, none refl refl)
 
 -- THE WAY BACK: what was written reads as it was meant
 module _ (d e : List ℕ) (a : ℕ) (ld : length d ≡ 8) (re : reserved e ≡ false) (za : isZero a ≡ false) (fa : a < 256 ^ 4) where
@@ -192,7 +246,7 @@ module _ (d e : List ℕ) (a : ℕ) (ld : length d ≡ 8) (re : reserved e ≡ f
       number-last o (omega (arith, length-octets-route)) refl bits-of length-octets-route refl
       ∙ rw (esi-of, re, address-of, za)
 
-  reads-back : readRoute o ≡ readAs 0 d e a
+  reads-back : readRoute o ≡ readAs 0 0 d e a
   unfolding readRoute
   reads-back = rw (eq-eqb (routeNumber o) 0 number-of, distinguisher-of, esi-of, address-of)
 
@@ -222,7 +276,7 @@ module _ (b d e : List ℕ) (a : ℕ) where
   Wrote n l =
       (n ≡ writeRouteNumber d e a (length b))
       × ((l ≡ routeWritten b d e a)
-      × (n ≡ 0 → readRoute (take 25 l) ≡ readAs 0 d e a))
+      × (n ≡ 0 → readRoute (take 25 l) ≡ readAs 0 0 d e a))
 
   not-written : (n : ℕ) → suc n ≡ writeRouteNumber d e a (length b) → Wrote (suc n) b
   unfolding routeWritten

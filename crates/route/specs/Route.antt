@@ -2,16 +2,21 @@
 -- 10 to 19 the segment identifier (ESI); 20 the address length in bits, 32; 21 to 24 the originator's address, high octet first.
 --   routeDistinguisher s, routeEsi s, routeAddress s  == the three fields of the route s
 --   routeNumber s             == 0, or the number of the first check that refuses the route s
+--   placeOf n s               == the place that the number n speaks of in the route s (document 02, M-103)
+--   routePlace s              == the place that the route's number speaks of
+--   Fault s n p               == what the number n and the place p tell of the route s: what stands at p is wrong
 --   checkedNumber c           == document 01's number for each case of the check's answer
+--   checkedPlace c            == the place for each case: 0 with an address
 --   checkedAddress c          == document 01's value for each case: the originator's address, or zero with a refusal
 --   routeChecked s            == the check's answer
---   readAs n d e a            == the reader's answer with these fields
+--   readAs n p d e a          == the reader's answer with these fields
 --   readRoute s               == the reader's answer
 --   routeOctets d e a         == the 25 octets of the route with these three fields
 --   writeRouteNumber d e a n  == the writer's answer, for a buffer of n octets
 --   routeWritten b d e a      == what a buffer holds after the writer, where it held b
 use Prim.Native.Nat.{ℕ}
-use mathlib.Core.Bool.{Bool, cond, not, _||_}
+use mathlib.Core.Path.{_≡_}
+use mathlib.Core.Bool.{Bool, true, cond, not, _||_}
 use mathlib.Core.List.{List, [], _∷_, _++_}
 use lib.ListN.{length, getD, take, drop, replicate}
 use lib.Dec.{ltb, eqb}
@@ -42,26 +47,52 @@ routeNumber s =
     (cond (isZero (routeAddress s)) 6
     0)))))
 
+-- for 1 the number of octets where that is wrong, else 1, the length octet; 0 for 2, 20 for 3, 10 for 4, 21 for 6; 0 if accepted
+unfoldable pub placeOf : ℕ → List ℕ → ℕ
+placeOf n s =
+    cond (eqb n 1) (cond (eqb (length s) 25) 1 (length s))
+    (cond (eqb n 3) 20
+    (cond (eqb n 4) 10
+    (cond (eqb n 6) 21
+    0)))
+
+abbrev pub routePlace : List ℕ → ℕ
+routePlace s = placeOf (routeNumber s) s
+
+-- what the place tells the person who looks at the octets: one case for each row of the rule
+pub data Fault (s : List ℕ) (n p : ℕ) : Type 0 where
+  none : n ≡ 0 → p ≡ 0 → Fault s n p
+  total : n ≡ 1 → p ≡ length s → (length s ≡ 25 → ⊥) → Fault s n p
+  lengthOctet : n ≡ 1 → p ≡ 1 → length s ≡ 25 → (getD s p 0 ≡ 23 → ⊥) → Fault s n p
+  type : n ≡ 2 → p ≡ 0 → (getD s p 0 ≡ 4 → ⊥) → Fault s n p
+  bits : n ≡ 3 → p ≡ 20 → (getD s p 0 ≡ 32 → ⊥) → Fault s n p
+  identifier : n ≡ 4 → p ≡ 10 → reserved (take 10 (drop p s)) ≡ true → Fault s n p
+  zeroAddress : n ≡ 6 → p ≡ 21 → isZero (numberOf (take 4 (drop p s))) ≡ true → Fault s n p
+
 abbrev pub checkedNumber : Checked → ℕ
 checkedNumber (Originator a) = 0
-checkedNumber (Refused n) = n
+checkedNumber (Refused n p) = n
+
+abbrev pub checkedPlace : Checked → ℕ
+checkedPlace (Originator a) = 0
+checkedPlace (Refused n p) = p
 
 abbrev pub checkedAddress : Checked → ℕ
 checkedAddress (Originator a) = a
-checkedAddress (Refused n) = 0
+checkedAddress (Refused n p) = 0
 
 unfoldable pub routeChecked : List ℕ → Checked
-routeChecked s = cond (eqb (routeNumber s) 0) (Originator (routeAddress s)) (Refused (routeNumber s))
+routeChecked s = cond (eqb (routeNumber s) 0) (Originator (routeAddress s)) (Refused (routeNumber s) (routePlace s))
 
--- a refusal's other numbers are zero
-abbrev pub readAs : ℕ → List ℕ → List ℕ → ℕ → RouteRead
-readAs n d e a = record { number = n; distinguisher = d; esi = e; address = a }
+-- a refusal's other numbers are zero, but for the place
+abbrev pub readAs : ℕ → ℕ → List ℕ → List ℕ → ℕ → RouteRead
+readAs n p d e a = record { number = n; place = p; distinguisher = d; esi = e; address = a }
 
 unfoldable pub readRoute : List ℕ → RouteRead
 readRoute s =
     cond (eqb (routeNumber s) 0)
-    (readAs 0 (routeDistinguisher s) (routeEsi s) (routeAddress s))
-    (readAs (routeNumber s) (replicate 8 0) (replicate 10 0) 0)
+    (readAs 0 0 (routeDistinguisher s) (routeEsi s) (routeAddress s))
+    (readAs (routeNumber s) (routePlace s) (replicate 8 0) (replicate 10 0) 0)
 
 -- WRITING
 unfoldable pub routeOctets : List ℕ → List ℕ → ℕ → List ℕ

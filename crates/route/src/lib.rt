@@ -2,17 +2,30 @@
 use address::Address;
 ghost use mathlib.Core.Path.{_≡_};
 ghost use lib.ListN.{length, take};
-ghost use Rattle.route.specs.Route.{checkedNumber, checkedAddress, routeNumber, routeChecked, readAs, readRoute, writeRouteNumber, routeWritten};
+ghost use Rattle.route.specs.Route.{
+  Fault,
+  checkedNumber,
+  checkedPlace,
+  checkedAddress,
+  routeNumber,
+  routePlace,
+  routeChecked,
+  readAs,
+  readRoute,
+  writeRouteNumber,
+  routeWritten,
+};
 
-// The answer of the check: the originator's address, or a refusal number.
+// The answer of the check: the originator's address, or a refusal number and the place that it speaks of.
 pub enum Checked {
     Originator(Address),
-    Refused(u8),
+    Refused(u8, usize),
 }
 
-// The answer of the reader: 0 and the fields, or a refusal number and zeros.
+// The answer of the reader: 0, place 0 and the fields, or a refusal number, its place and zeros.
 pub struct RouteRead {
     pub number: u8,
+    pub place: usize,
     pub distinguisher: [u8; 8],
     pub esi: [u8; 10],
     pub address: Address,
@@ -24,52 +37,68 @@ pub fn number(c: Checked) -> u8
 {
     match c {
         Checked::Originator(_) => 0,
-        Checked::Refused(n) => n,
+        Checked::Refused(n, _) => n,
+    }
+}
+
+// The place of a check's answer: 0 for an address.
+pub fn place(c: Checked) -> usize
+    ensures { λ r. ⌜ r ≡ checkedPlace c ⌝ }
+{
+    match c {
+        Checked::Originator(_) => 0,
+        Checked::Refused(_, p) => p,
     }
 }
 
 // Checks a route, in document 01's order: fewer than 21 octets, 1; type not 4, 2; address length not 32, 3; not 25 octets or length octet
-// not 23, 1; identifier reserved, 4; address zero, 6. Otherwise the answer is the originator's address.
+// not 23, 1; identifier reserved, 4; address zero, 6. Otherwise the answer is the originator's address. With a refusal comes the place of what is
+// wrong: for 1 the number of octets where that is wrong, else the length octet; 0 for 2, 20 for 3, 10 for 4, 21 for 6.
 pub fn check(s: &[u8]) -> Checked
     ensures { λ r. ⌜ r ≡ routeChecked (now (s .entry)) ⌝ }
     ensures numbered { λ r. ⌜ checkedNumber r ≡ routeNumber (now (s .entry)) ⌝ }
+    ensures placed { λ r. ⌜ checkedPlace r ≡ routePlace (now (s .entry)) ⌝ }
+    ensures fault { λ r. ⌜ Fault (now (s .entry)) (checkedNumber r) (checkedPlace r) ⌝ }
 {
     if s.len() < 21 {
-        return Checked::Refused(1);
+        return Checked::Refused(1, s.len());
     }
     if s[0] != 4 {
-        return Checked::Refused(2);
+        return Checked::Refused(2, 0);
     }
     if s[20] != 32 {
-        return Checked::Refused(3);
+        return Checked::Refused(3, 20);
     }
     if s.len() != 25 {
-        return Checked::Refused(1);
+        return Checked::Refused(1, s.len());
     }
     if s[1] != 23 {
-        return Checked::Refused(1);
+        return Checked::Refused(1, 1);
     }
     if esi::is_reserved(&s[10..20]) {
-        return Checked::Refused(4);
+        return Checked::Refused(4, 10);
     }
     let a = octets::u32_of(s[21], s[22], s[23], s[24]);
     if address::is_zero(a) {
-        return Checked::Refused(6);
+        return Checked::Refused(6, 21);
     }
     Checked::Originator(a)
 }
 
-// Reads a route: its distinguisher, identifier and originator, or the check's refusal with zeros.
+// Reads a route: its distinguisher, identifier and originator, or the check's refusal and place with zeros.
 pub fn read(s: &[u8]) -> RouteRead
     ensures { λ r. ⌜ r ≡ readRoute (now (s .entry)) ⌝ }
+    ensures fault { λ r. ⌜ Fault (now (s .entry)) (r .number) (r .place) ⌝ }
 {
     let mut d = [0u8; 8];
     let mut e = [0u8; 10];
     let checked = check(s);
     let Checked::Originator(a) = checked else {
         let n = number(checked);
+        let p = place(checked);
         return RouteRead {
             number: n,
+            place: p,
             distinguisher: d,
             esi: e,
             address: 0,
@@ -79,6 +108,7 @@ pub fn read(s: &[u8]) -> RouteRead
     octets::store(&mut e, 0, &s[10..20]);
     RouteRead {
         number: 0,
+        place: 0,
         distinguisher: d,
         esi: e,
         address: a,
@@ -90,7 +120,7 @@ pub fn read(s: &[u8]) -> RouteRead
 pub fn write(buf: &mut [u8], distinguisher: &[u8], esi: &[u8], address: Address) -> u8
     ensures number { λ r. ⌜ r ≡ writeRouteNumber (now (distinguisher .entry)) (now (esi .entry)) address (length (now (buf .entry))) ⌝ }
     ensures written { λ _. ⌜ now (buf .exit) ≡ routeWritten (now (buf .entry)) (now (distinguisher .entry)) (now (esi .entry)) address ⌝ }
-    ensures reads { λ r. ⌜ (r ≡ 0 → readRoute (take 25 (now (buf .exit))) ≡ readAs 0 (now (distinguisher .entry)) (now (esi .entry)) address) ⌝ }
+    ensures reads { λ r. ⌜ (r ≡ 0 → readRoute (take 25 (now (buf .exit))) ≡ readAs 0 0 (now (distinguisher .entry)) (now (esi .entry)) address) ⌝ }
 {
     if distinguisher.len() != 8 {
         return 1;

@@ -8,6 +8,7 @@ ghost use mathlib.Core.Path.{_≡_};
 ghost use mathlib.Core.List.{List};
 ghost use mathlib.Core.Bool.{true};
 ghost use lib.Count.{ones};
+ghost use Rattle.route.specs.Route.{Fault, routeNumber};
 ghost use Rattle.table.specs.Table.{live, WellFormed, freshTable, announced, withdrawn};
 ghost use Rattle.election.specs.Election.{electOf, NoneNamed};
 ghost use Rattle.returning.specs.Returning.{returningOf};
@@ -27,12 +28,14 @@ pub fn fresh(esi: &[u8]) -> Change
 }
 
 // Announces a route with its communities. The route's own checks come first; then 5 for another identifier, 7 for a list of communities
-// over 256 octets or not a multiple of 8, 8 for a new address where 64 are present. An address that is present has its entry replaced.
+// over 256 octets or not a multiple of 8, 8 for a new address where 64 are present. An address that is present has its entry replaced. The
+// place that the route's own checks give is passed on.
 pub fn announce(t: Table, route: &[u8], communities: &[u8]) -> Change
     requires { ⌜ WellFormed t ⌝ }
     ensures answer { λ r. ⌜ r ≡ announced t (now (route .entry)) (now (communities .entry)) ⌝ }
     ensures kept { λ r. ⌜ WellFormed (r .table) ⌝ }
     ensures call { λ r. ⌜ calls.Changes t (calls.announce (now (route .entry)) (now (communities .entry))) r ⌝ }
+    ensures fault { λ r. ⌜ Fault (now (route .entry)) (routeNumber (now (route .entry))) (r .place) ⌝ }
 {
     table::announce(t, route, communities)
 }

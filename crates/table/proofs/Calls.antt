@@ -14,9 +14,10 @@ use Rattle.address.specs.Address.{addressKey, isZero}
 use Rattle.address.proofs.Laws.{not-zero}
 use Rattle.esi.specs.Reserved.{reserved}
 use Rattle.esi.proofs.Laws.{length-not-reserved}
-use Rattle.route.specs.Route.{routeEsi, routeAddress, routeNumber, routeChecked}
+use Rattle.route.specs.Route.{routeEsi, routeAddress, routeNumber, routePlace, Fault, checkedNumber, checkedPlace, routeChecked}
+use Rattle.route.specs.declared.Checked.{Checked}
 use Rattle.route.specs.declared.Checked.the-variants.{Originator, Refused}
-use Rattle.route.proofs.Laws.{route-esi, route-address, told-originator, told-refused}
+use Rattle.route.proofs.Laws.{route-fault, route-esi, route-address, place-accepted, told-originator, told-refused}
 use Rattle.community.specs.Community.{listFits, electionIn, readList}
 use Rattle.community.specs.declared.ListRead.{ListRead}
 use Rattle.community.proofs.Laws.{list-refused, list-accepted, election-right}
@@ -32,10 +33,10 @@ use Rattle.table.specs.declared.Found.the-variants.{At, Missing}
 use Rattle.table.proofs.Laws.{live-of, same-table, length-live, rank-count}
 
 abbrev accepted : Table → Change
-accepted t = record { number = 0; table = t }
+accepted t = record { number = 0; place = 0; table = t }
 
 abbrev refused : ℕ → Table → Change
-refused n t = record { number = n; table = t }
+refused n t = record { number = n; place = 0; table = t }
 
 -- WELL-FORMED TABLES
 pub well-formed : (i : List ℕ) (l : List Entry) → (reserved i ≡ false) ⊎ ((i ≡ replicate 10 0) × (length l ≡ 0)) → length l ≤ 64 → Rising keyOf 1 l → Every EntryRight l → WellFormed (tableOf i l)
@@ -135,23 +136,26 @@ module _ (t : Table) (w : WellFormed t) where
 
   -- ANNOUNCEMENTS
   module _ (r c : List ℕ) where
-    pub announced-refused : (n : ℕ) → routeChecked r ≡ Refused n → refused n t ≡ announced t r c
+    pub announced-refused : (k : Checked) (n p m q : ℕ) → k ≡ routeChecked r → k ≡ Refused n p → m ≡ checkedNumber k → q ≡ checkedPlace k
+        → record { number = m; place = q; table = t } ≡ announced t r c
     unfolding announced announceNumber
-    announced-refused n h =
-        let q = told-refused r n h in
-        rw (ne-eqb (routeNumber r) 0 (q .0), q .1) (rw (ne-eqb (routeNumber r) 0 (q .0)) refl)
+    announced-refused k n p m q e h f g =
+        let told = told-refused r n p (sym e ∙ h) in
+        let f' : m ≡ routeNumber r = f ∙ ap checkedNumber h ∙ told .1 .0 in
+        let g' : q ≡ routePlace r = g ∙ ap checkedPlace h ∙ told .1 .1 in
+        rw (ne-eqb (routeNumber r) 0 (told .0), f', g') (rw (ne-eqb (routeNumber r) 0 (told .0)) refl)
 
     pub announced-other : routeNumber r ≡ 0 → sameOctets (t .esi) (routeEsi r) ≡ false → refused 5 t ≡ announced t r c
     unfolding announced announceNumber
-    announced-other n s = rw (n, s)
+    announced-other n s = rw (place-accepted r n, n, s)
 
     pub announced-list : routeNumber r ≡ 0 → sameOctets (t .esi) (routeEsi r) ≡ true → listFits c ≡ false → refused 7 t ≡ announced t r c
     unfolding announced announceNumber
-    announced-list n s l = rw (n, s, l)
+    announced-list n s l = rw (place-accepted r n, n, s, l)
 
     pub announced-admitted : routeNumber r ≡ 0 → sameOctets (t .esi) (routeEsi r) ≡ true → listFits c ≡ true → admitted t (entryOf (routeAddress r) (electionIn c)) ≡ announced t r c
     unfolding announced announceNumber admitted
-    announced-admitted n s l = rw (n, s, l)
+    announced-admitted n s l = rw (place-accepted r n, n, s, l)
 
     -- the same, from what the steps of the call answer
     module _ (a : ℕ) (h : routeChecked r ≡ Originator a) where
@@ -232,8 +236,8 @@ length-inserted e l r s h = go (has keyOf (keyOf e) l) refl h
         )
     go false q v = omega (arith, length-insert keyOf e l q, ltb-true (length l) 64 v)
 
-chosen-kept : (n : ℕ) (old new : Table) → WellFormed old → (n ≡ 0 → WellFormed new) → WellFormed (changed n old new .table)
-chosen-kept n old new w f = go (eqb n 0) refl
+chosen-kept : (n p : ℕ) (old new : Table) → WellFormed old → (n ≡ 0 → WellFormed new) → WellFormed (changed n p old new .table)
+chosen-kept n p old new w f = go (eqb n 0) refl
   where
     go : (b : Bool) → eqb n 0 ≡ b → WellFormed (cond b new old)
     go true e = f (eqb-true n 0 e)
@@ -242,7 +246,7 @@ chosen-kept n old new w f = go (eqb n 0) refl
 module _ (t : Table) (w : WellFormed t) where
   pub announced-kept : (r c : List ℕ) → WellFormed (announced t r c .table)
   unfolding announced
-  announced-kept r c = chosen-kept n t (tableOf (t .esi) (insert keyOf e l)) w new
+  announced-kept r c = chosen-kept n (routePlace r) t (tableOf (t .esi) (insert keyOf e l)) w new
     where
       l : List Entry
       l = live t
@@ -267,7 +271,7 @@ module _ (t : Table) (w : WellFormed t) where
 
   pub withdrawn-kept : (a : ℕ) → WellFormed (withdrawn t a .table)
   unfolding withdrawn
-  withdrawn-kept a = chosen-kept (withdrawNumber a (has keyOf k (live t))) t (tableOf (t .esi) (remove keyOf k (live t))) w (λ _. new)
+  withdrawn-kept a = chosen-kept (withdrawNumber a (has keyOf k (live t))) 0 t (tableOf (t .esi) (remove keyOf k (live t))) w (λ _. new)
     where
       k : ℕ
       k = addressKey a
@@ -283,9 +287,19 @@ module _ (t : Table) (w : WellFormed t) where
           (keyed.rising-remove keyOf k (live t) 1 (w .rising))
           (keyed.every-remove keyOf EntryRight k (live t) (w .right))
 
-  -- the two promises of a call, from the one
-  pub announced-both : (r c : List ℕ) {x : Change} → x ≡ announced t r c → (x ≡ announced t r c) × WellFormed (x .table)
-  announced-both r c q = (q, subst (λ (y : Change). WellFormed (y .table)) (sym q) (announced-kept r c))
+  -- all promises of a call, from the first
+  announced-fault : (r c : List ℕ) → Fault r (routeNumber r) (announced t r c .place)
+  unfolding announced
+  announced-fault r c = route-fault r
+
+  pub announced-all : (r c : List ℕ) {x : Change} → x ≡ announced t r c → (x ≡ announced t r c) × (WellFormed (x .table) × Fault r (routeNumber r) (x .place))
+  announced-all r c q = (
+    q,
+    (
+      subst (λ (y : Change). WellFormed (y .table)) (sym q) (announced-kept r c),
+      subst (λ (y : Change). Fault r (routeNumber r) (y .place)) (sym q) (announced-fault r c),
+    ),
+  )
 
   pub withdrawn-both : (a : ℕ) {x : Change} → x ≡ withdrawn t a → (x ≡ withdrawn t a) × WellFormed (x .table)
   withdrawn-both a q = (q, subst (λ (y : Change). WellFormed (y .table)) (sym q) (withdrawn-kept a))

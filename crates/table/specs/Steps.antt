@@ -24,4 +24,4 @@ foundIn k l = cond (has keyOf k l) (At (rank keyOf k l)) (Missing (rank keyOf k 
 
 unfoldable pub admitted : Table → Entry → Change
 admitted t e =
-    changed (cond (not (has keyOf (keyOf e) (live t) || ltb (length (live t)) 64)) 8 0) t (tableOf (t .esi) (insert keyOf e (live t)))
+    changed (cond (not (has keyOf (keyOf e) (live t) || ltb (length (live t)) 64)) 8 0) 0 t (tableOf (t .esi) (insert keyOf e (live t)))

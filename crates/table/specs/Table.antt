@@ -10,7 +10,7 @@
 --   announceNumber i r c p n     == 0, or the number of the first check that refuses an announcement of the route r with the communities c
 --                                   to the table of i, where p tells whether its address is present and n are present
 --   withdrawNumber a p           == the same for a withdrawal of the address a, where p tells whether it is present
---   changed n old new            == the answer n, with the new table if n is 0 and else the old one
+--   changed n p old new          == the answer n with the place p, and the new table if n is 0 and else the old one
 --   freshTable i, announced t r c, withdrawn t a  == the answers of the three calls
 use Prim.Native.Nat.{ℕ, _≤_}
 use mathlib.Core.Path.{_≡_}
@@ -22,7 +22,7 @@ use lib.Dec.{ltb, eqb}
 use Rattle.octets.specs.Octets.{sameOctets}
 use Rattle.address.specs.Address.{addressKey, isZero}
 use Rattle.esi.specs.Reserved.{reserved}
-use Rattle.route.specs.Route.{routeEsi, routeAddress, routeNumber}
+use Rattle.route.specs.Route.{routeEsi, routeAddress, routeNumber, routePlace}
 use Rattle.community.specs.declared.Election.{Election}
 use Rattle.community.specs.Community.{electionUnder, listFits, electionIn}
 use Rattle.keyed.specs.Keyed.{padded, Rising, has, insert, remove, Every}
@@ -74,21 +74,24 @@ announceNumber i r c present n =
 unfoldable pub withdrawNumber : ℕ → Bool → ℕ
 withdrawNumber a present = cond (isZero a) 6 (cond (not present) 9 0)
 
--- ANSWERS: a refused call leaves the table as it got it
-abbrev pub changed : ℕ → Table → Table → Change
-changed n old new = record { number = n; table = cond (eqb n 0) new old }
+-- ANSWERS: a refused call leaves the table as it got it. An announcement passes on the place of its route's refusal, which is 0 where the route is
+-- accepted (document 02, M-103); the other calls have place 0
+abbrev pub changed : ℕ → ℕ → Table → Table → Change
+changed n p old new = record { number = n; place = p; table = cond (eqb n 0) new old }
 
 unfoldable pub freshTable : List ℕ → Change
-freshTable i = record { number = cond (reserved i) 4 0; table = tableOf (ownerOf i) [] }
+freshTable i = record { number = cond (reserved i) 4 0; place = 0; table = tableOf (ownerOf i) [] }
 
 unfoldable pub announced : Table → List ℕ → List ℕ → Change
 announced t r c =
     changed (announceNumber (t .esi) r c (has keyOf (addressKey (routeAddress r)) (live t)) (length (live t)))
+    (routePlace r)
     t
     (tableOf (t .esi) (insert keyOf (entryOf (routeAddress r) (electionIn c)) (live t)))
 
 unfoldable pub withdrawn : Table → ℕ → Change
 withdrawn t a =
     changed (withdrawNumber a (has keyOf (addressKey a) (live t)))
+    0
     t
     (tableOf (t .esi) (remove keyOf (addressKey a) (live t)))

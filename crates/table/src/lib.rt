@@ -9,6 +9,7 @@ ghost use mathlib.Core.List.{[], _∷_, _++_};
 ghost use Prim.Native.Nat.{_≤_, _<_};
 ghost use lib.ListN.{take};
 ghost use Rattle.address.specs.Address.{addressKey};
+ghost use Rattle.route.specs.Route.{Fault, routeNumber};
 ghost use Rattle.keyed.specs.Keyed.{spliced, cut};
 ghost use Rattle.table.specs.Table.{keyOf, none, entryOf, EntryRight, live, WellFormed, freshTable, announced, withdrawn};
 ghost use Rattle.table.specs.Steps.{UnusedFrom, foundIn, admitted};
@@ -34,9 +35,10 @@ pub struct Table {
     pub entries: [Entry; 64],
 }
 
-// The answer of a call: 0 or a refusal number, and the table as it then is.
+// The answer of a call: 0 or a refusal number, the place that a route's refusal speaks of (else 0), and the table as it then is.
 pub struct Change {
     pub number: u8,
+    pub place: usize,
     pub table: Table,
 }
 
@@ -69,6 +71,7 @@ pub fn fresh(esi: &[u8]) -> Change
     if esi::is_reserved(esi) {
         return Change {
             number: 4,
+            place: 0,
             table: Table {
                 esi: own,
                 count: 0,
@@ -79,6 +82,7 @@ pub fn fresh(esi: &[u8]) -> Change
     octets::store(&mut own, 0, esi);
     Change {
         number: 0,
+        place: 0,
         table: Table {
             esi: own,
             count: 0,
@@ -179,6 +183,7 @@ fn admit(t: Table, e: Entry) -> Change
             replaced.entries[at] = e;
             Change {
                 number: 0,
+                place: 0,
                 table: replaced,
             }
         }
@@ -187,6 +192,7 @@ fn admit(t: Table, e: Entry) -> Change
             if 64 <= n {
                 return Change {
                     number: 8,
+                    place: 0,
                     table: t,
                 };
             }
@@ -201,6 +207,7 @@ fn admit(t: Table, e: Entry) -> Change
             };
             Change {
                 number: 0,
+                place: 0,
                 table: u,
             }
         }
@@ -221,17 +228,21 @@ fn entry_of(address: Address, e: Election) -> Entry
 }
 
 // Announces a route with its communities. The route's own checks come first; then 5 for another identifier, 7 for a list of communities
-// over 256 octets or not a multiple of 8, 8 for a new address where 64 are present. An address that is present has its entry replaced.
+// over 256 octets or not a multiple of 8, 8 for a new address where 64 are present. An address that is present has its entry replaced. The
+// place that the route's own checks give is passed on.
 pub fn announce(t: Table, route: &[u8], communities: &[u8]) -> Change
     requires { ⌜ WellFormed t ⌝ }
     ensures answer { λ r. ⌜ r ≡ announced t (now (route .entry)) (now (communities .entry)) ⌝ }
     ensures kept { λ r. ⌜ WellFormed (r .table) ⌝ }
+    ensures fault { λ r. ⌜ Fault (now (route .entry)) (routeNumber (now (route .entry))) (r .place) ⌝ }
 {
     let checked = route::check(route);
     let Checked::Originator(address) = checked else {
         let n = route::number(checked);
+        let p = route::place(checked);
         return Change {
             number: n,
+            place: p,
             table: t,
         };
     };
@@ -239,6 +250,7 @@ pub fn announce(t: Table, route: &[u8], communities: &[u8]) -> Change
     if !octets::same(&own, &route[10..20]) {
         return Change {
             number: 5,
+            place: 0,
             table: t,
         };
     }
@@ -246,6 +258,7 @@ pub fn announce(t: Table, route: &[u8], communities: &[u8]) -> Change
     if list.number != 0 {
         return Change {
             number: 7,
+            place: 0,
             table: t,
         };
     }
@@ -262,6 +275,7 @@ pub fn withdraw(t: Table, address: Address) -> Change
     if address::is_zero(address) {
         return Change {
             number: 6,
+            place: 0,
             table: t,
         };
     }
@@ -269,6 +283,7 @@ pub fn withdraw(t: Table, address: Address) -> Change
     let Found::At(at) = found else {
         return Change {
             number: 9,
+            place: 0,
             table: t,
         };
     };
@@ -284,6 +299,7 @@ pub fn withdraw(t: Table, address: Address) -> Change
     };
     Change {
         number: 0,
+        place: 0,
         table: u,
     }
 }

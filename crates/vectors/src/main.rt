@@ -1,5 +1,6 @@
 // Runs outside values and prints each beside what it should be: the values of document 01 that are not proved ("Values to hold against the
-// definitions", those without a star), the worked examples of RFC 9785, sections 4.1 and 4.3, and the check value of CRC-32.
+// definitions", those without a star), the places of document 02's M-103, the worked examples of RFC 9785, sections 4.1 and 4.3, and the check
+// value of CRC-32.
 use libc::STDOUT_FILENO;
 use table::Change;
 use table::Table;
@@ -49,6 +50,20 @@ fn show_pair(name: &[u8], preference: u16, dp: bool, wanted: u16, wanted_dp: boo
     io::print_decimal(STDOUT_FILENO, wanted_dp as u64);
     io::write_all(STDOUT_FILENO, b")");
     verdict(preference == wanted && dp == wanted_dp);
+}
+
+// A refusal number and its place beside what they should be.
+fn show_place(name: &[u8], number: u64, place: u64, wanted: u64, wanted_place: u64) {
+    io::write_all(STDOUT_FILENO, name);
+    io::write_all(STDOUT_FILENO, b": ");
+    io::print_decimal(STDOUT_FILENO, number);
+    io::write_all(STDOUT_FILENO, b" ");
+    io::print_decimal(STDOUT_FILENO, place);
+    io::write_all(STDOUT_FILENO, b", should be ");
+    io::print_decimal(STDOUT_FILENO, wanted);
+    io::write_all(STDOUT_FILENO, b" ");
+    io::print_decimal(STDOUT_FILENO, wanted_place);
+    verdict(number == wanted && place == wanted_place);
 }
 
 // ---- tables of one segment: router n has the address 10.0.0.n
@@ -182,6 +197,125 @@ fn full_table() {
         b"a 65th address after one withdrawal",
         accepted.number as u64,
         0,
+    );
+}
+
+// ---- document 02, M-103: where a text or a route is wrong
+
+// What reading a text tells.
+fn show_text(name: &[u8], text: &[u8], wanted: u64, wanted_place: u64) {
+    let read = esi::read_text(text);
+    show_place(
+        name,
+        read.number as u64,
+        read.place as u64,
+        wanted,
+        wanted_place,
+    );
+}
+
+// Texts with wrong characters: the first is told.
+fn text_characters() {
+    show_text(
+        b"the letter O at place 1",
+        b"0O:11:22:33:44:55:66:77:88:99",
+        13,
+        1,
+    );
+    show_text(
+        b"wrong characters at places 2 and 28",
+        b"00;11:22:33:44:55:66:77:88:9g",
+        13,
+        2,
+    );
+}
+
+// Texts that are too short and too long.
+fn text_lengths() {
+    show_text(
+        b"a text of 28 characters",
+        b"00:11:22:33:44:55:66:77:88:9",
+        13,
+        28,
+    );
+    show_text(
+        b"a text of 30 characters",
+        b"00:11:22:33:44:55:66:77:88:99:",
+        13,
+        29,
+    );
+}
+
+// Texts without a fault.
+fn text_without_fault() {
+    show_text(
+        b"a reserved identifier",
+        b"ff:FF:ff:FF:ff:FF:ff:FF:ff:FF",
+        4,
+        0,
+    );
+    show_text(b"a good text", b"00:11:22:33:44:55:66:77:88:99", 0, 0);
+}
+
+// A good route of router 1.
+fn good_route() -> [u8; 25] {
+    let esi = identifier();
+    let distinguisher = [0u8; 8];
+    let mut octets = [0u8; 25];
+    route::write(&mut octets, &distinguisher, &esi, NETWORK + 1);
+    octets
+}
+
+// What reading a route tells.
+fn show_route(name: &[u8], octets: &[u8], wanted: u64, wanted_place: u64) {
+    let read = route::read(octets);
+    show_place(
+        name,
+        read.number as u64,
+        read.place as u64,
+        wanted,
+        wanted_place,
+    );
+}
+
+// Runs of octets with a wrong total: 20 of them, and 24 with length octet 22, where the total is told.
+fn route_totals() {
+    let twenty = [4u8; 20];
+    show_route(b"a route of 20 octets", &twenty, 1, 20);
+    let mut twenty_four = [0u8; 24];
+    twenty_four[0] = 4;
+    twenty_four[1] = 22;
+    twenty_four[20] = 32;
+    show_route(b"length octet 22 and 24 octets", &twenty_four, 1, 24);
+}
+
+// A good route, and one with length octet 22.
+fn route_length_octet() {
+    let mut octets = good_route();
+    show_route(b"a good route", &octets, 0, 0);
+    octets[1] = 22;
+    show_route(b"length octet 22", &octets, 1, 1);
+}
+
+// A route of type 5.
+fn route_type() {
+    let mut octets = good_route();
+    octets[0] = 5;
+    show_route(b"route type 5", &octets, 2, 0);
+}
+
+// A route with address length 31; its announcement passes the place on.
+fn route_bits() {
+    let mut octets = good_route();
+    octets[20] = 31;
+    show_route(b"address length 31", &octets, 3, 20);
+    let change = segment::announce(empty_table(), &octets, b"");
+    show_place(
+        b"address length 31, announced",
+        change.number as u64,
+        change.place as u64,
+        3,
+        20,
     );
 }
 
@@ -392,6 +526,13 @@ fn main() {
     tags();
     returning_stays();
     full_table();
+    text_characters();
+    text_lengths();
+    text_without_fault();
+    route_totals();
+    route_length_octet();
+    route_type();
+    route_bits();
     order();
     mixed();
     maintenance();

@@ -22,6 +22,8 @@ pub fn families() -> Vec<(&'static str, u64, Make)> {
         ("esi-character", ESI_CHARACTER_COUNT, esi_character),
         ("esi-around", ESI_AROUND_COUNT, esi_around),
         ("esi-length", ESI_LENGTH_COUNT, esi_length),
+        ("esi-pair", ESI_PAIR_COUNT, esi_pair),
+        ("esi-place-length", ESI_PLACE_LENGTH_COUNT, esi_place_length),
         ("block-edge", BLOCK_EDGE_COUNT, block_edge),
     ]
 }
@@ -310,6 +312,26 @@ fn esi_length(index: u64) -> Vec<u8> {
     let mut octets = record::record(record::KIND_ESI, &text);
     octets.extend(record::query(1, &[]));
     octets
+}
+
+const ESI_PAIR_COUNT: u64 = TEXT_LENGTH * TEXT_LENGTH;
+
+/// A text with two wrong characters, at every pair of places.
+fn esi_pair(index: u64) -> Vec<u8> {
+    let mut text = record::esi_text(&ESI);
+    text[(index / TEXT_LENGTH) as usize] = b'O';
+    text[(index % TEXT_LENGTH) as usize] = b'l';
+    record::record(record::KIND_ESI, &text)
+}
+
+const ESI_PLACE_LENGTH_COUNT: u64 = 4 * 27;
+
+/// A text one or two characters too short or too long, with a wrong character at every place.
+fn esi_place_length(index: u64) -> Vec<u8> {
+    let length = [27, 28, 30, 31][(index / 27) as usize];
+    let mut text: Vec<u8> = b"a1:".iter().copied().cycle().take(length).collect();
+    text[length - 1 - (index % 27) as usize] = b'g';
+    record::record(record::KIND_ESI, &text)
 }
 
 const HEADER_COUNT: u64 = 4 * 4 * 256;

@@ -1,4 +1,5 @@
-//! The bench program: records in, one line each out. Document 01, "The bench program".
+//! The bench program: records in, one line each out. Document 01, "The bench program"; document
+//! 02, M-103 (places on lines).
 //!
 //! A record is the mark D5 4F, a kind octet, a length octet and that many octets. Records are
 //! taken one by one, so memory does not grow with the input.
@@ -6,7 +7,7 @@
 use crate::election;
 use crate::esi;
 use crate::refusal::{answer_number, Refusal};
-use crate::route::ROUTE_LENGTH;
+use crate::route::{self, ROUTE_LENGTH};
 use crate::table::Table;
 use std::io::{self, ErrorKind, Read, Write};
 use std::net::Ipv4Addr;
@@ -118,9 +119,17 @@ fn take_esi(table: &mut Option<Table>, text: &[u8]) -> Outcome {
         Ok(esi) => {
             let (answer, fresh) = Table::fresh(&esi);
             *table = Some(fresh);
-            Outcome::GoOn(format!("p {}", answer_number(&answer)))
+            Outcome::GoOn(with_place('p', answer_number(&answer), 0))
         }
-        Err(refusal) => Outcome::Stop(format!("p {}", refusal.number())),
+        Err(refusal) => Outcome::Stop(with_place('p', refusal.number(), esi::text_place(text))),
+    }
+}
+
+/// A line of a letter and a number; after refusals 1 to 4, 6 and 13 the place is its last number.
+fn with_place(letter: char, number: u8, place: usize) -> String {
+    match number {
+        1..=4 | 6 | 13 => format!("{letter} {number} {place}"),
+        _ => format!("{letter} {number}"),
     }
 }
 
@@ -128,9 +137,10 @@ fn take_announcement(table: &mut Table, octets: &[u8]) -> Outcome {
     if octets.len() < ROUTE_LENGTH {
         return bad_record();
     }
-    let (route, communities) = octets.split_at(ROUTE_LENGTH);
-    let answer = table.announce(route, communities);
-    Outcome::GoOn(format!("a {}", answer_number(&answer)))
+    let (octets, communities) = octets.split_at(ROUTE_LENGTH);
+    let answer = table.announce(octets, communities);
+    let place = route::place(octets);
+    Outcome::GoOn(with_place('a', answer_number(&answer), place))
 }
 
 fn take_withdrawal(table: &mut Table, octets: &[u8]) -> Outcome {

@@ -1,5 +1,6 @@
 //! The segment identifier (ESI) and its text: ten pairs of hex digits with colons between them.
-//! Document 01, "The route" (reserved identifiers) and "The plate" (the text).
+//! Document 01, "The route" (reserved identifiers) and "The plate" (the text); document 02, M-103
+//! (where a text is wrong).
 
 use crate::refusal::Refusal;
 
@@ -42,6 +43,24 @@ pub fn parse_text(text: &[u8]) -> Result<Esi, Refusal> {
         *octet = 16 * digit(text[start])? + digit(text[start + 1])?;
     }
     Ok(esi)
+}
+
+/// Where a text is wrong: the index of the first wrong character, else the text's length if under
+/// 29, else 29 if more follow. A text that can be read, reserved or not, has 0.
+pub fn text_place(text: &[u8]) -> usize {
+    if parse_text(text).is_ok() {
+        return 0;
+    }
+    for (place, character) in text.iter().take(TEXT_LENGTH).enumerate() {
+        let right = match place % 3 {
+            2 => *character == b':',
+            _ => digit(*character).is_ok(),
+        };
+        if !right {
+            return place;
+        }
+    }
+    text.len().min(TEXT_LENGTH)
 }
 
 /// The value of one hex digit.

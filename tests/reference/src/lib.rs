@@ -1,10 +1,11 @@
-//! A reference of document 01, "What is required and the exact rules", in ordinary Rust.
+//! A reference of document 01, "What is required and the exact rules", and of those requests of
+//! document 02 that have landed, in ordinary Rust.
 //!
-//! Purpose: to stand beside the proved programs in tests. It is written from the document alone
+//! Purpose: to stand beside the proved programs in tests. It is written from the documents alone
 //! and prefers the plainest form of each rule to a quick one: the table is a sorted `Vec`, the
 //! CRC goes bit by bit, the weight is computed over numbers that cannot run over.
 //!
-//! One module for each section of the document:
+//! One module for each section of document 01:
 //!
 //! - `refusal`: the refusal numbers
 //! - `esi`: the segment identifier, and its text of 29 characters

@@ -1,4 +1,5 @@
-//! The Ethernet Segment route: 25 octets. Document 01, "The route".
+//! The Ethernet Segment route: 25 octets. Document 01, "The route"; document 02, M-103 (where a
+//! route is wrong).
 //!
 //! Octet 0 type, 1 length of the rest, 2..9 route distinguisher, 10..19 ESI,
 //! 20 address length in bits, 21..24 the originator's IPv4 address, high octet first.
@@ -43,6 +44,19 @@ pub fn check(octets: &[u8]) -> Result<(), Refusal> {
         return Err(Refusal::ZeroAddress);
     }
     Ok(())
+}
+
+/// Where a route is wrong: for 1 the number of octets where that is wrong, else the length octet;
+/// for the others where the wrong field starts. An accepted route has 0.
+pub fn place(octets: &[u8]) -> usize {
+    match check(octets) {
+        Err(Refusal::RouteLength) if octets.len() != ROUTE_LENGTH => octets.len(),
+        Err(Refusal::RouteLength) => 1,
+        Err(Refusal::AddressLength) => ADDRESS_BITS_PLACE,
+        Err(Refusal::ReservedEsi) => 10,
+        Err(Refusal::ZeroAddress) => 21,
+        _ => 0,
+    }
 }
 
 /// Reads a route: the checks, then the three fields.

@@ -8,14 +8,15 @@ use lib.ListN.{length}
 use borrow.Author.Needs.{needs}
 use Rattle.octets.proofs.Laws.{Octets}
 use Rattle.esi.specs.declared.TextRead.{TextRead}
-use Rattle.esi.specs.Text.{accepted, esiIn, firstWrong, lowerCase, readText, textOf, wellFormed}
-use Rattle.esi.proofs.Laws.{read-malformed, read-reserved, read-accepted, malformed-length, malformed-at, well-formed, text-of-read}
+use Rattle.esi.specs.Text.{FirstFault, accepted, esiIn, firstWrong, lowerCase, readText, refused, textOf, wellFormed}
+use Rattle.esi.proofs.Laws.{read-malformed, read-reserved, read-accepted, malformed-length, malformed-at, well-formed, read-fault, text-of-read}
 use Rattle.esi.proofs.read_text.Statement.{statement}
 use Rattle.esi.proofs.read_text.Tie as tie
 
--- the contract's two clauses, of an answer that is the right one
-done : (t : List ℕ) (a : TextRead) → Octets t → a ≡ readText t → (a ≡ readText t) × (a .number ≡ 0 → textOf (a .esi) ≡ lowerCase t)
-done t a o e = (e, rw e (text-of-read t o))
+-- the contract's three clauses, of an answer that is the right one
+done : (t : List ℕ) (a : TextRead) → Octets t → a ≡ readText t
+    → (a ≡ readText t) × ((a .number ≡ 13 → FirstFault t (a .place)) × (a .number ≡ 0 → textOf (a .esi) ≡ lowerCase t))
+done t a o e = (e, (rw e (read-fault t), rw e (text-of-read t o)))
 
 formed : (t : List ℕ) {w : ℕ} → w ≡ firstWrong t → length t ≡ 29 → w ≡ 29 → wellFormed t ≡ true
 formed t e n h = well-formed t n (sym e ∙ h)
@@ -30,7 +31,7 @@ returns : tie.Need-returns
 returns c =
     let t = c .before .before .before .before .args .text .now in
     done t (c .refusal .result) (λ i. omega (arith, c .before .before .before .shared-slice-known .given i))
-    (c .refusal .ensures ∙ sym (read-malformed t (malformed-length t (omega arith))))
+    (c .refusal .ensures ∙ ap (refused 13) (c .before .before .first-wrong .ensures) ∙ sym (read-malformed t (malformed-length t (omega arith))))
 
 refusal-requires-2 : tie.Need-refusal-requires-2
 refusal-requires-2 c κs = search needs
@@ -39,7 +40,7 @@ returns-2 : tie.Need-returns-2
 returns-2 c =
     let t = c .before .before .before .before .before .args .text .now in
     done t (c .refusal2 .result) (λ i. omega (arith, c .before .before .before .before .shared-slice-known .given i))
-    (c .refusal2 .ensures ∙ sym (read-malformed t (malformed-at t (λ e. omega (arith, c .before .before .before .first-wrong .ensures)))))
+    (c .refusal2 .ensures ∙ ap (refused 13) (c .before .before .before .first-wrong .ensures) ∙ sym (read-malformed t (malformed-at t (λ e. omega (arith, c .before .before .before .first-wrong .ensures)))))
 
 esi-in-requires : tie.Need-esi-in-requires
 esi-in-requires c κs = formed _ (c .before .before .first-wrong .ensures) (omega arith) (c .if2 .left)

@@ -21,8 +21,8 @@ part-announce-end c = search needs
 announce-requires : tie.Need-announce-requires
 announce-requires c κs = search needs
 
-put-line-requires : tie.Need-put-line-requires
-put-line-requires c κs = search needs
+put-read-requires : tie.Need-put-read-requires
+put-read-requires c κs = search needs
 
 same-length : tie.Need-same-length
 same-length c = search needs
@@ -32,7 +32,7 @@ returns c =
     let pl = c .before .before .before in
     let an = pl .before .before in
     let s = an .before .before .before .before .before in
-    stepped-announce (s .args .t) (s .args .payload .now) _ (an .announce .ensures .0) (an .announce .ensures .1) (pl .put-line .ensures)
+    stepped-announce (s .args .t) (s .args .payload .now) _ (an .announce .ensures .0) (an .announce .ensures .1 .0) (pl .put-read .ensures)
 
 pub announce-spec : {M : Type 1} → statement M
 announce-spec =
@@ -43,6 +43,6 @@ announce-spec =
     part-announce-start
     part-announce-end
     announce-requires
-    put-line-requires
+    put-read-requires
     same-length
     returns)

@@ -7,8 +7,8 @@ use Rattle.records.proofs.begin.Tie as tie
 read-text-requires : tie.Need-read-text-requires
 read-text-requires c κs = search needs
 
-put-line-requires : tie.Need-put-line-requires
-put-line-requires c κs = search needs
+put-read-requires : tie.Need-put-read-requires
+put-read-requires c κs = search needs
 
 same-length : tie.Need-same-length
 same-length c = search needs
@@ -18,7 +18,7 @@ returns c =
     let pl = c .before .before .before in
     let rd = pl .before .before in
     let s = rd .before .before .before in
-    stepped-end (s .args .t) (s .args .text .now) _ (rd .read-text .ensures .0) (pl .put-line .ensures) (s .pre .1) (c .if1 .taken)
+    stepped-end (s .args .t) (s .args .text .now) _ (rd .read-text .ensures .0) (pl .put-read .ensures) (s .pre .1) (c .if1 .taken)
 
 slice-aggregate-fresh : tie.Need-slice-aggregate-fresh
 slice-aggregate-fresh c = search needs
@@ -36,14 +36,14 @@ returns-2 c =
     let pl = test .before .before .before in
     let rd = pl .before .before in
     let s = rd .before .before .before in
-    stepped-begin (s .args .t) (s .args .text .now) _ (rd .read-text .ensures .0) (pl .put-line .ensures) _ (test .if1 .left) (f .fresh .ensures .0) (f .fresh .ensures .1)
+    stepped-begin (s .args .t) (s .args .text .now) _ (rd .read-text .ensures .0) (pl .put-read .ensures) _ (test .if1 .left) (f .fresh .ensures .0) (f .fresh .ensures .1)
 
 pub begin-spec : {M : Type 1} → statement M
 begin-spec =
     tie.close
     (tie.spec
     read-text-requires
-    put-line-requires
+    put-read-requires
     same-length
     returns
     slice-aggregate-fresh

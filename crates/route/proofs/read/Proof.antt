@@ -1,11 +1,10 @@
 -- `read` meets its contract: what the check answers says whether the fields are read. Assumes nothing.
 use borrow.Author.Needs.{needs}
 use native.Mathlib.Omega.{arith}
-use mathlib.Core.Path.{_≡_, sym, _∙_, ap}
+use mathlib.Core.Path.{_≡_, sym, _∙_}
 use denote.Ref.{now}
 use lib.ListN.{length}
-use Rattle.route.specs.Route.{checkedNumber}
-use Rattle.route.proofs.Laws.{told-originator, route-length, read-refused, read-accepted}
+use Rattle.route.proofs.Laws.{told-originator, route-length, reads-refused, reads-accepted}
 use Rattle.route.proofs.read.Statement.{statement}
 use Rattle.route.proofs.read.Tie as tie
 
@@ -21,13 +20,15 @@ enum-told c = search needs
 number-requires : tie.Need-number-requires
 number-requires c κs = search needs
 
+place-requires : tie.Need-place-requires
+place-requires c κs = search needs
+
 returns : tie.Need-returns
 returns c =
-    let called = c .before .before .before in
+    let numbered = c .before in
+    let called = numbered .before .before .before in
     let s = now (called .before .before .args .s) in
-    let told = c .before .enum-told .given .1 in
-    let n = c .number .ensures ∙ ap checkedNumber told in
-    rw n (read-refused s _ (sym (called .check .ensures .0) ∙ told))
+    reads-refused s _ _ _ _ _ (called .check .ensures) (numbered .before .enum-told .given .1) (numbered .number .ensures) (c .place .ensures)
 
 slice-aggregate-store : tie.Need-slice-aggregate-store
 slice-aggregate-store c = search needs
@@ -74,7 +75,7 @@ returns-2 c =
     let first = c .before .before .before .before .before in
     let told = first .before .before .before .before in
     let called = told .before .before in
-    read-accepted (now (called .before .before .args .s)) _ _ _ (sym (called .check .ensures .0) ∙ told .checked .given .1)
+    reads-accepted (now (called .before .before .args .s)) _ _ _ (sym (called .check .ensures .0) ∙ told .checked .given .1)
     (first .store .ensures) (c .before .store2 .ensures)
 
 pub read-spec : {M : Type 1} → statement M
@@ -85,6 +86,7 @@ read-spec =
     enum-known-checked
     enum-told
     number-requires
+    place-requires
     returns
     slice-aggregate-store
     sub-store

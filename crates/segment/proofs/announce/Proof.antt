@@ -12,7 +12,7 @@ returns : tie.Need-returns
 returns c =
     let told = c .announce .ensures in
     let args = c .before .before .before .args in
-    (told .0, (told .1, announce-changes (args .t) (now (args .route)) (now (args .communities)) (told .0)))
+    (told .0, (told .1 .0, (announce-changes (args .t) (now (args .route)) (now (args .communities)) (told .0), told .1 .1)))
 
 pub announce-spec : {M : Type 1} → statement M
 announce-spec = tie.close (tie.spec announce-requires returns)

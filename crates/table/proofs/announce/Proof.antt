@@ -1,13 +1,13 @@
 -- `announce` meets its contract: the checks in their order, and then what `admit` answers. Assumes nothing.
 use borrow.Author.Needs.{needs}
 use native.Mathlib.Omega.{arith}
-use mathlib.Core.Path.{_≡_, sym, _∙_, ap}
+use mathlib.Core.Path.{_≡_, sym, _∙_}
 use borrow.Author.Tests.{not-true, not-false}
 use denote.Ref.{now}
 use lib.ListN.{length}
-use Rattle.route.specs.Route.{checkedNumber, routeEsi}
+use Rattle.route.specs.Route.{routeEsi}
 use Rattle.route.proofs.Laws.{route-length, told-originator}
-use Rattle.table.proofs.Calls.{announced-refused, differs, unread, done, announced-both}
+use Rattle.table.proofs.Calls.{announced-refused, differs, unread, done, announced-all}
 use Rattle.table.proofs.announce.Statement.{statement}
 use Rattle.table.proofs.announce.Tie as tie
 
@@ -23,14 +23,19 @@ enum-told c = search needs
 number-requires : tie.Need-number-requires
 number-requires c κs = search needs
 
+place-requires : tie.Need-place-requires
+place-requires c κs = search needs
+
 returns : tie.Need-returns
 returns c =
-    let called = c .before .before .before in
+    let numbered = c .before in
+    let called = numbered .before .before .before in
     let start = called .before .before .before in
+    let t = start .args .t in
     let r = now (start .args .route) in
-    let told = c .before .enum-told .given .1 in
-    let n = c .number .ensures ∙ ap checkedNumber told in
-    rw n (announced-both (start .args .t) (start .pre) r (now (start .args .communities)) (announced-refused (start .args .t) (start .pre) r _ _ (sym (called .check .ensures .0) ∙ told)))
+    let l = now (start .args .communities) in
+    announced-all t (start .pre) r l
+    (announced-refused t (start .pre) r l _ _ _ _ _ (called .check .ensures .0) (numbered .before .enum-told .given .1) (numbered .number .ensures) (c .place .ensures))
 
 slice-aggregate-same : tie.Need-slice-aggregate-same
 slice-aggregate-same c = search needs
@@ -64,7 +69,7 @@ returns-2 c =
     let r = now (start .args .route) in
     let l = now (start .args .communities) in
     let checked = sym (called .check .ensures .0) ∙ told .checked .given .1 in
-    announced-both t (start .pre) r l
+    announced-all t (start .pre) r l
     (differs t (start .pre) r l _ checked (sym (same .same .ensures) ∙ not-true _ (c .if1 .taken)))
 
 read-list-requires : tie.Need-read-list-requires
@@ -82,7 +87,7 @@ returns-3 c =
     let r = now (start .args .route) in
     let l = now (start .args .communities) in
     let checked = sym (called .check .ensures .0) ∙ told .checked .given .1 in
-    announced-both t (start .pre) r l
+    announced-all t (start .pre) r l
     (unread t (start .pre) r l _ checked _ (sym (same .same .ensures) ∙ not-false _ (tested .if1 .left)) (c .before .before .read-list .ensures) (c .if2 .taken))
 
 entry-of-requires : tie.Need-entry-of-requires
@@ -103,7 +108,7 @@ returns-4 c =
     let r = now (start .args .route) in
     let l = now (start .args .communities) in
     let checked = sym (called .check .ensures .0) ∙ told .checked .given .1 in
-    announced-both t (start .pre) r l
+    announced-all t (start .pre) r l
     (done t (start .pre) r l _ checked _ _ _ (sym (same .same .ensures) ∙ not-false _ (tested .if1 .left)) (c .before .before .before .before .before .read-list .ensures)
     (c .before .before .before .if2 .left) (c .before .entry-of .ensures) (c .admit .ensures))
 
@@ -115,6 +120,7 @@ announce-spec =
     enum-known-checked
     enum-told
     number-requires
+    place-requires
     returns
     slice-aggregate-same
     sub-same

@@ -52,14 +52,58 @@ fn empty_input_prints_nothing() {
 #[test]
 fn a_refused_first_record_ends_the_run() {
     let reserved = record(0, b"00:00:00:00:00:00:00:00:00:00");
-    assert_eq!(output(&[reserved, announcement(1)].concat()), "p 4\n");
+    assert_eq!(output(&[reserved, announcement(1)].concat()), "p 4 0\n");
     for length in (0..=255).filter(|length| *length != 29) {
         let text = vec![b'1'; length];
         assert_eq!(
             output(&[record(0, &text), vec![1, 2, 3]].concat()),
-            "p 13\n"
+            format!("p 13 {}\n", length.min(2))
         );
     }
+}
+
+/// A p line says where the text is wrong.
+#[test]
+fn places_of_texts() {
+    for (text, line) in [
+        (&b"0O:11:22:33:44:55:66:77:88:99"[..], "p 13 1\n"),
+        (b"00;11:22:33:44:55:66:77:88:9g", "p 13 2\n"),
+        (b"00:11:22:33:44:55:66:77:88:9", "p 13 28\n"),
+        (b"00:11:22:33:44:55:66:77:88:99\n", "p 13 29\n"),
+        (b"ff:ff:ff:ff:ff:ff:ff:ff:ff:ff", "p 4 0\n"),
+        (b"", "p 13 0\n"),
+    ] {
+        assert_eq!(output(&record(0, text)), line);
+    }
+}
+
+/// An a line says where the route is wrong, and nothing after 0, 5, 7 and 8.
+#[test]
+fn places_of_announcements() {
+    let changed = |place: usize, value: u8| {
+        let mut octets = route_octets(&ESI, ten(1));
+        octets[place] = value;
+        record(1, &octets)
+    };
+    let mut odd_list = route_octets(&ESI, ten(1));
+    odd_list.push(6);
+    let rest = [
+        changed(0, 5),
+        changed(20, 31),
+        changed(1, 22),
+        record(1, &route_octets(&[0; 10], ten(1))),
+        record(1, &route_octets(&ESI, 0)),
+        record(1, &route_octets(&OTHER_ESI, ten(1))),
+        record(1, &odd_list),
+        announcement(1),
+        record(2, &[0; 4]),
+    ];
+    assert_eq!(
+        after_first(&rest.concat()),
+        "p 0\na 2 0\na 3 20\na 1 1\na 4 10\na 6 21\na 5\na 7\na 0\nw 6\n"
+    );
+    let full: Vec<u8> = (1..=65).flat_map(announcement).collect();
+    assert!(after_first(&full).ends_with("a 0\na 8\n"));
 }
 
 #[test]
@@ -104,7 +148,7 @@ fn every_length_of_every_kind() {
         let expected = if length < 25 {
             "p 0\nx 16\n"
         } else {
-            "p 0\na 2\n"
+            "p 0\na 2 0\n"
         };
         assert_eq!(after_first(&record(1, &zeros)), expected);
         let expected = if length == 4 {
@@ -183,7 +227,7 @@ fn refused_calls_print_their_number_and_go_on() {
     ];
     assert_eq!(
         after_first(&rest.concat()),
-        "p 0\na 6\na 5\nw 9\nq 10\nq 12\na 0\nq 0 10.0.0.1 1\n"
+        "p 0\na 6 21\na 5\nw 9\nq 10\nq 12\na 0\nq 0 10.0.0.1 1\n"
     );
 }
 

@@ -1,7 +1,7 @@
 //! Reading and writing the text of an identifier.
 
 use crate::common::*;
-use reference::esi::{read_text, write_text};
+use reference::esi::{read_text, text_place, write_text};
 use reference::refusal::Refusal;
 
 #[test]
@@ -26,6 +26,7 @@ fn every_character_at_every_place() {
             let answer = read_text(&text).map(|_| ());
             let expected = if good { Ok(()) } else { Err(Refusal::EsiText) };
             assert_eq!(answer, expected, "place {place}, character {character}");
+            assert_eq!(text_place(&text), if good { 0 } else { place });
         }
     }
 }
@@ -58,6 +59,34 @@ fn every_other_length_is_refused() {
         read_text(b"00:11:22:33:44:55:66:77:88:99\n"),
         Err(Refusal::EsiText)
     );
+}
+
+#[test]
+fn the_first_wrong_character_is_told() {
+    for place in 0..29 {
+        for other in place..29 {
+            let mut text = ESI_TEXT.to_vec();
+            text[place] = b'x';
+            text[other] = b'x';
+            assert_eq!(text_place(&text), place);
+        }
+    }
+}
+
+/// A wrong character among the first 29 beats the length; after them there is none.
+#[test]
+fn places_of_texts_of_another_length() {
+    let long = b"00:11:22:33:44:55:66:77:88:99:aa:bb:cc:dd:ee:ff:00:11:22:33:44";
+    for length in (0..long.len()).filter(|length| *length != 29) {
+        assert_eq!(text_place(&long[..length]), length.min(29));
+        for place in 0..length {
+            let mut text = long[..length].to_vec();
+            text[place] = b'O';
+            assert_eq!(text_place(&text), place.min(29));
+        }
+    }
+    assert_eq!(text_place(b"00:00:00:00:00:00:00:00:00:00"), 0);
+    assert_eq!(text_place(ESI_TEXT), 0);
 }
 
 #[test]

@@ -2,7 +2,7 @@
 
 use crate::common::*;
 use reference::refusal::Refusal;
-use reference::route::{check, read, write, Route};
+use reference::route::{check, place, read, write, Route};
 
 #[test]
 fn a_good_route_is_read() {
@@ -25,6 +25,22 @@ fn every_length_but_twenty_five_is_refused() {
             Err(Refusal::RouteLength)
         };
         assert_eq!(check(&octets[..length]), expected, "length {length}");
+        assert_eq!(
+            place(&octets[..length]),
+            if length == 25 { 0 } else { length }
+        );
+    }
+}
+
+/// A wrong total beats a wrong length octet.
+#[test]
+fn places_of_wrong_lengths() {
+    let mut octets = route_octets(&ESI, ten(1));
+    octets.push(0);
+    octets[1] = 22;
+    for length in 0..=26 {
+        let expected = if length == 25 { 1 } else { length };
+        assert_eq!(place(&octets[..length]), expected, "length {length}");
     }
 }
 
@@ -89,30 +105,33 @@ fn checks_of_reading_in_order() {
     for faults in 0..32 {
         let mut octets = route_octets(&ESI, ten(1));
         let mut expected = Ok(());
-        let mut fault = |bit: u32, refusal| {
+        let mut expected_place = 0;
+        let mut fault = |bit: u32, refusal, place| {
             let present = faults >> bit & 1 == 1;
             if present {
                 expected = Err(refusal);
+                expected_place = place;
             }
             present
         };
         // The last check first, so that an earlier check overwrites the expectation.
-        if fault(0, Refusal::ZeroAddress) {
+        if fault(0, Refusal::ZeroAddress, 21) {
             octets[21..25].fill(0);
         }
-        if fault(1, Refusal::ReservedEsi) {
+        if fault(1, Refusal::ReservedEsi, 10) {
             octets[10..20].fill(0xFF);
         }
-        if fault(2, Refusal::RouteLength) {
+        if fault(2, Refusal::RouteLength, 1) {
             octets[1] = 24;
         }
-        if fault(3, Refusal::AddressLength) {
+        if fault(3, Refusal::AddressLength, 20) {
             octets[20] = 33;
         }
-        if fault(4, Refusal::RouteType) {
+        if fault(4, Refusal::RouteType, 0) {
             octets[0] = 1;
         }
         assert_eq!(check(&octets), expected, "faults {faults:05b}");
+        assert_eq!(place(&octets), expected_place, "faults {faults:05b}");
         assert_eq!(read(&octets).map(|_| ()), expected);
         assert_eq!(check(&octets[..20]), Err(Refusal::RouteLength));
     }

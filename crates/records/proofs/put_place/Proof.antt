@@ -1,0 +1,60 @@
+-- `put_place` meets its contract: the six pieces of the line are put one after another, and there is room for them. Assumes nothing.
+use native.Mathlib.Omega.{arith}
+use mathlib.Core.Path.{refl}
+use Rattle.lines.proofs.Laws.{put-next}
+use Rattle.records.specs.Records.{placeLine}
+use Rattle.records.proofs.Laws.{written-all, length-place}
+use borrow.Author.Needs.{needs}
+use Rattle.records.proofs.put_place.Statement.{statement}
+use Rattle.records.proofs.put_place.Tie as tie
+
+put-octet-requires : tie.Need-put-octet-requires
+put-octet-requires c κs = search needs
+
+put-octet-requires-2 : tie.Need-put-octet-requires-2
+put-octet-requires-2 c κs = search needs
+
+put-decimal-requires : tie.Need-put-decimal-requires
+put-decimal-requires c κs = search needs
+
+put-octet-requires-3 : tie.Need-put-octet-requires-3
+put-octet-requires-3 c κs = search needs
+
+put-decimal-requires-2 : tie.Need-put-decimal-requires-2
+put-decimal-requires-2 c κs = search needs
+
+put-octet-requires-4 : tie.Need-put-octet-requires-4
+put-octet-requires-4 c κs = search needs
+
+same-length : tie.Need-same-length
+same-length c = search needs
+
+returns : tie.Need-returns
+unfolding placeLine
+returns c =
+    let p6 = c .before .before in
+    let p5 = p6 .before .before .before .before in
+    let p4 = p5 .before .before .before .before in
+    let p3 = p4 .before .before .before .before in
+    let p2 = p3 .before .before .before .before in
+    let p1 = p2 .before .before .before .before in
+    let s = p1 .before .before .before in
+    written-all
+    (put-next (p1 .put-octet .ensures)
+    (put-next (p2 .put-octet2 .ensures)
+    (put-next (p3 .put-decimal .ensures) (put-next (p4 .put-octet3 .ensures) (put-next (p5 .put-decimal2 .ensures) (λ _. p6 .put-octet4 .ensures))))))
+    refl
+    (omega (arith, length-place (s .args .letter) (s .args .number) (s .args .place) (omega arith) (omega arith), s .pre))
+
+pub put-place-spec : {M : Type 1} → statement M
+put-place-spec =
+    tie.close
+    (tie.spec
+    put-octet-requires
+    put-octet-requires-2
+    put-decimal-requires
+    put-octet-requires-3
+    put-decimal-requires-2
+    put-octet-requires-4
+    same-length
+    returns)
