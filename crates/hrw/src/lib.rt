@@ -19,13 +19,23 @@ const INCREMENT: u64 = 12345;
 
 const MODULUS: u64 = 2147483648;
 
+// The CRC register after the octet x, from the register 0: the entries of its halves.
+fn after_octet(x: u8, highs: &[u32; 16], lows: &[u32; 16]) -> u32
+    requires { ⌜ (now highs ≡ highEntries) × (now lows ≡ lowEntries) ⌝ }
+    ensures { λ r. ⌜ r ≡ crcOctet 0 x ⌝ }
+{
+    let high = (x / 16) as usize;
+    let low = (x % 16) as usize;
+    highs[high] ^ lows[low]
+}
+
 // The CRC register after one octet more, by the two tables.
 fn crc_octet(state: u32, x: u8, highs: &[u32; 16], lows: &[u32; 16]) -> u32
     requires { ⌜ (now highs ≡ highEntries) × (now lows ≡ lowEntries) ⌝ }
     ensures { λ r. ⌜ r ≡ crcOctet state x ⌝ }
 {
     let mixed = state ^ (x as u32);
-    (mixed / 256) ^ table::after_octet((mixed % 256) as u8, highs, lows)
+    (mixed / 256) ^ after_octet((mixed % 256) as u8, highs, lows)
 }
 
 // The CRC register after the octets of s, from the register handed in: a CRC of several pieces goes on from one to the next.

@@ -1,7 +1,6 @@
-// What an octet makes of an empty CRC register, from two tables of sixteen entries, one for each half of the octet.
+// Two tables of sixteen entries, one for each half of an octet: what it makes of an empty CRC register.
 // A constant array is laid out on the stack again at each call that reads it: so one table of 256 would be slower, and the tables are lent.
 ghost use mathlib.Core.Path.{_≡_};
-ghost use Rattle.hrw.specs.Crc.{crcOctet};
 ghost use Rattle.hrw.specs.Halves.{highEntries, lowEntries};
 
 // The CRC register after an octet 0, 16, 32, .. 240, from the register 0.
@@ -56,14 +55,4 @@ pub fn of_low_halves() -> [u32; 16]
     ensures { λ r. ⌜ r ≡ lowEntries ⌝ }
 {
     LOW
-}
-
-// The CRC register after the octet x, from the register 0.
-pub fn after_octet(x: u8, highs: &[u32; 16], lows: &[u32; 16]) -> u32
-    requires { ⌜ (now highs ≡ highEntries) × (now lows ≡ lowEntries) ⌝ }
-    ensures { λ r. ⌜ r ≡ crcOctet 0 x ⌝ }
-{
-    let high = (x / 16) as usize;
-    let low = (x % 16) as usize;
-    highs[high] ^ lows[low]
 }

@@ -1,4 +1,4 @@
--- `table::after_octet` meets its contract: the CRC of an octet is that of its halves, joined by exclusive or. Assumes nothing.
+-- `after_octet` meets its contract: the CRC of an octet is that of its halves, joined by exclusive or. Assumes nothing.
 use Prim.Native.Nat.{ℕ, _*_, _/_, _%_}
 use mathlib.Core.Path.{ap, ap₂, _∙_, sym}
 use mathlib.Core.List.{List}
@@ -9,8 +9,8 @@ use Rattle.hrw.specs.Halves.{highEntries, lowEntries}
 use Rattle.hrw.proofs.Entries.{entry}
 use Rattle.hrw.proofs.Laws.{crcOctet-halves}
 use borrow.Author.Needs.{needs}
-use Rattle.hrw.proofs.table.after_octet.Statement.{statement}
-use Rattle.hrw.proofs.table.after_octet.Tie as tie
+use Rattle.hrw.proofs.after_octet.Statement.{statement}
+use Rattle.hrw.proofs.after_octet.Tie as tie
 
 cast-high : tie.Need-cast-high
 cast-high c = search needs
