@@ -48,13 +48,17 @@ pub fn check_route(s: &[u8]) -> Result<u32, u8> {
     Ok(address)
 }
 
-/// What a list of communities says, or 7: the first election community is read.
+/// What a list of communities says, or 7: the election community is read, and several count as none.
 #[inline]
 pub fn read_communities(list: &[u8]) -> Result<Election, u8> {
     if list.len() > MAX_COMMUNITIES || !list.len().is_multiple_of(8) {
         return Err(7);
     }
-    let first = list.chunks_exact(8).find(|one| one[0] == 6 && one[1] == 6);
+    let mut elections = list.chunks_exact(8).filter(|one| one[0] == 6 && one[1] == 6);
+    let first = elections.next();
+    if elections.next().is_some() {
+        return Ok(Election::default());
+    }
     Ok(first.map(read_community).unwrap_or_default())
 }
 

@@ -2,3 +2,4 @@ pub mod Laws
 pub mod Ready
 pub mod Winner
 pub mod Answered
+pub mod All

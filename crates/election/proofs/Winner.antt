@@ -1,19 +1,19 @@
 -- The elected candidate is the entry at the elected place: the order of the candidates by score and place is document 01's order. Assumes nothing.
-use Prim.Native.Nat.{ℕ, suc, _+_, _*_, _%_, _≤_, _<_}
+use Prim.Native.Nat.{ℕ, suc, _%_, _≤_, _<_}
 use native.Mathlib.Omega.{arith}
 use mathlib.Core.Path.{_≡_, refl, ap, _∙_, sym, fun-ext}
 use mathlib.Core.Bool.{Bool, true, false, cond, not, _&&_}
 use mathlib.Core.List.{List, [], _∷_, map}
 use lib.ListN.{length, getD, length-map, List·getD-map}
 use lib.Dec.{ltb, eqb}
-use borrow.Author.Tests.{lt-ltb, le-ltb, eq-eqb, ne-eqb, eqb-true}
+use borrow.Author.Tests.{lt-ltb, le-ltb, eqb-true}
 use Rattle.keyed.specs.Keyed.{Rising}
 use Rattle.keyed.proofs.Order.{Tri, less, equal, more, tri}
 use Rattle.table.specs.declared.Entry.{Entry}
 use Rattle.table.specs.Table.{keyOf, none}
 use Rattle.hrw.specs.Weight.{weightOf}
 use Rattle.places.specs.Places.{picked}
-use Rattle.choice.specs.Choice.{best, bestOf, decided, higher, lower, flagged, andThen, byScore}
+use Rattle.choice.specs.Choice.{best, bestOf, decided, lower, andThen}
 use Rattle.choice.proofs.Laws.{Order, best-map}
 use Rattle.choice.proofs.Criteria.{criterion-higher, criterion-lower, criterion-flagged, order-lower, order-then, order-byScore, Ascending, ascending-weaken, best-later}
 use Rattle.election.specs.Election.{byWeight, byPreference, better, elected}

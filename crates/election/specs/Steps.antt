@@ -5,17 +5,21 @@
 --   placeBeats a d es p q  == whether the entry at place p beats the one at q
 --   bestPlace a d es ps    == of the places ps of the entries es, the first whose entry has the best score; 64 where there is none
 --   electedPlace ..        == the place that is elected among the places ps
+--   placesIn i n           == the places i, i + 1 and so on, n of them
+--   usedWith a ac          == the algorithm a and the AC-DF bit ac in use
 --   digestUnder a tag i    == the digest of the tag on the identifier i under algorithm 1, and 0 under the others, which ask for none
+--   namedOf e a n set      == the answer that names the entry e
 --   answerFor i l tag ready == the answer of the election once 10 and 11 are passed
-use Prim.Native.Nat.{ℕ, _+_, _*_, _%_}
+use Prim.Native.Nat.{ℕ, zero, suc, _+_, _*_, _%_}
 use mathlib.Core.Bool.{Bool, cond, not}
-use mathlib.Core.List.{List}
+use mathlib.Core.List.{List, [], _∷_}
 use lib.ListN.{length, getD}
 use lib.Dec.{ltb, eqb}
 use Rattle.table.specs.declared.Entry.{Entry}
 use Rattle.table.specs.Table.{none}
 use Rattle.hrw.specs.Weight.{digestOf, weightOf}
 use Rattle.choice.specs.Choice.{bestOf}
+use Rattle.election.specs.declared.InUse.{InUse}
 use Rattle.election.specs.declared.Answer.{Answer}
 use Rattle.election.specs.Election.{inUse, candidates, candidateSet, answerOf}
 
@@ -38,6 +42,16 @@ bestPlace a d es ps = bestOf (placeBeats a d es) 64 ps
 
 unfoldable pub electedPlace : ℕ → ℕ → ℕ → List Entry → List ℕ → ℕ
 electedPlace a tag d es ps = cond (eqb a 0) (getD ps (tag % length ps) 64) (bestPlace a d es ps)
+
+unfoldable pub placesIn : ℕ → ℕ → List ℕ
+placesIn i zero = []
+placesIn i (suc n) = i ∷ placesIn (suc i) n
+
+abbrev pub usedWith : ℕ → Bool → InUse
+usedWith a ac = record { algorithm = a; «ac_df» = ac }
+
+abbrev pub namedOf : Entry → ℕ → ℕ → ℕ → Answer
+namedOf e a n set = record { number = 0; address = e .address; algorithm = a; n = n; candidates = set }
 
 unfoldable pub digestUnder : ℕ → ℕ → List ℕ → ℕ
 digestUnder a tag i = cond (eqb a 1) (digestOf tag i) 0

@@ -5,12 +5,14 @@ use table::Entry;
 use table::Found;
 use table::Table;
 ghost use mathlib.Core.Path.{_≡_};
-ghost use mathlib.Core.List.{map};
+ghost use mathlib.Core.List.{List, map};
+ghost use mathlib.Core.Bool.{true, false};
+ghost use Prim.Native.Nat.{ℕ};
 ghost use lib.Count.{ones};
 ghost use Rattle.table.specs.Table.{live, WellFormed};
 ghost use Rattle.places.specs.Places.{places, setOf};
 ghost use Rattle.election.specs.Election.{inUse, onList, electOf, refused, NoneNamed};
-ghost use Rattle.election.specs.Steps.{withBit, scoreOf, beats, bestPlace, digestUnder, answerFor};
+ghost use Rattle.election.specs.Steps.{withBit, scoreOf, beats, bestPlace, placesIn, usedWith, digestUnder, answerFor, namedOf};
 
 // The algorithm and the AC-DF bit that an election goes by.
 pub struct InUse {
@@ -159,6 +161,31 @@ pub fn best_place(t: Table, set: u64, algorithm: u8, digest: u32) -> usize
     at
 }
 
+// Of all places in use, the first whose entry has the best score; 64 where there is none.
+fn best_in_use(t: Table, algorithm: u8, digest: u32) -> usize
+    requires { ⌜ WellFormed t ⌝ }
+    ensures { λ r. ⌜ r ≡ bestPlace algorithm digest (t .entries) (placesIn 0 (t .count)) ⌝ }
+{
+    let n = t.count;
+    if n == 0 {
+        return 64;
+    }
+    let mut at = 0;
+    let e = t.entries[0];
+    let mut top = score(e, algorithm, digest);
+    let mut next = 1;
+    while next < n {
+        let f = t.entries[next];
+        let s = score(f, algorithm, digest);
+        if score_beats(algorithm, s, top) {
+            at = next;
+            top = s;
+        }
+        next += 1;
+    }
+    at
+}
+
 // The digest of a tag on the table's segment, which only algorithm 1 asks for; 0 under the others.
 fn digest_under(t: Table, algorithm: u8, tag: u32) -> u32
     ensures { λ r. ⌜ r ≡ digestUnder algorithm tag (t .esi) ⌝ }
@@ -182,23 +209,52 @@ fn refusal(number: u8) -> Answer
     }
 }
 
-// The answer once the tag and the list are accepted: 12 where no candidate is eligible. All places in use are candidates or, with AC-DF in use,
-// those on the ready list; N is the number of the ones of their set.
-fn elect_accepted(t: Table, tag: u32, ready: &[Address]) -> Answer
-    requires { ⌜ WellFormed t ⌝ }
+// The answer that names an entry.
+fn named(e: Entry, algorithm: u8, n: u32, set: u64) -> Answer
+    ensures { λ r. ⌜ r ≡ namedOf e algorithm n set ⌝ }
+{
+    Answer {
+        number: 0,
+        address: e.address,
+        algorithm: algorithm,
+        n: n,
+        candidates: set,
+    }
+}
+
+// The answer where all routes are candidates, by plain place: 12 where there is none.
+fn elect_all(t: Table, algorithm: u8, tag: u32) -> Answer
+    requires { ⌜ WellFormed t × (inUse (live t) ≡ usedWith algorithm false) ⌝ }
+    ensures answer { λ r. ⌜ ((ready : List ℕ) → r ≡ answerFor (t .esi) (live t) tag ready) ⌝ }
+    ensures counted { λ r. ⌜ r .n ≡ ones (r .candidates) ⌝ }
+{
+    let n = t.count as u32;
+    if n == 0 {
+        return refusal(12);
+    }
+    let set = places::below(t.count);
+    let mut at = 64;
+    if algorithm == 0 {
+        at = (tag % n) as usize;
+    } else {
+        let digest = digest_under(t, algorithm, tag);
+        at = best_in_use(t, algorithm, digest);
+    }
+    let e = t.entries[at];
+    named(e, algorithm, n, set)
+}
+
+// The answer with AC-DF in use, where those on the ready list are candidates: 12 where there is none. N is the number of the ones of their set.
+fn elect_ready(t: Table, algorithm: u8, tag: u32, ready: &[Address]) -> Answer
+    requires { ⌜ WellFormed t × (inUse (live t) ≡ usedWith algorithm true) ⌝ }
     ensures answer { λ r. ⌜ r ≡ answerFor (t .esi) (live t) tag (now (ready .entry)) ⌝ }
     ensures counted { λ r. ⌜ r .n ≡ ones (r .candidates) ⌝ }
 {
-    let u = in_use(t);
-    let mut set = places::below(t.count);
-    if u.ac_df {
-        set = ready_set(t, ready);
-    }
+    let set = ready_set(t, ready);
     if set == 0 {
         return refusal(12);
     }
     let n = places::count(set);
-    let algorithm = u.algorithm;
     let mut at = 64;
     if algorithm == 0 {
         at = places::nth(set, tag % n);
@@ -207,13 +263,20 @@ fn elect_accepted(t: Table, tag: u32, ready: &[Address]) -> Answer
         at = best_place(t, set, algorithm, digest);
     }
     let e = t.entries[at];
-    Answer {
-        number: 0,
-        address: e.address,
-        algorithm: algorithm,
-        n: n,
-        candidates: set,
+    named(e, algorithm, n, set)
+}
+
+// The answer once the tag and the list are accepted: 12 where no candidate is eligible.
+fn elect_accepted(t: Table, tag: u32, ready: &[Address]) -> Answer
+    requires { ⌜ WellFormed t ⌝ }
+    ensures answer { λ r. ⌜ r ≡ answerFor (t .esi) (live t) tag (now (ready .entry)) ⌝ }
+    ensures counted { λ r. ⌜ r .n ≡ ones (r .candidates) ⌝ }
+{
+    let u = in_use(t);
+    if u.ac_df {
+        return elect_ready(t, u.algorithm, tag, ready);
     }
+    elect_all(t, u.algorithm, tag)
 }
 
 // Elects the Designated Forwarder for a tag: 10 for tag 0 or 4,294,967,295, 11 for a ready list over 64, 12 where no candidate is eligible.
