@@ -54,7 +54,9 @@ pub fn read_communities(list: &[u8]) -> Result<Election, u8> {
     if list.len() > MAX_COMMUNITIES || !list.len().is_multiple_of(8) {
         return Err(7);
     }
-    let mut elections = list.chunks_exact(8).filter(|one| one[0] == 6 && one[1] == 6);
+    let mut elections = list
+        .chunks_exact(8)
+        .filter(|one| one[0] == 6 && one[1] == 6);
     let first = elections.next();
     if elections.next().is_some() {
         return Ok(Election::default());

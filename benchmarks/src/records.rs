@@ -1,4 +1,4 @@
-//! The bench program over a baseline (document 01, "The bench program"), and the generator of a long run of records.
+//! The bench program over a baseline (document 01, "The bench program"; document 02, M-103), and the generator of a long run of records.
 //! Blocks of 64 KiB are read and written; a record that is cut by the end of a block is kept for the next.
 
 use crate::answer::Segment;
@@ -74,7 +74,7 @@ impl<T: Segment> Bench<T> {
         match record[2] {
             1 if octets.len() >= 25 => {
                 let number = table.announce(&octets[..25], &octets[25..]);
-                self.line(b'a', number);
+                self.placed_line(b'a', number, route_place(number));
                 true
             }
             2 if octets.len() == 4 => {
@@ -115,11 +115,11 @@ impl<T: Segment> Bench<T> {
             return self.bad();
         }
         let Some(esi) = esi_in(text) else {
-            self.line(b'p', 13);
+            self.placed_line(b'p', 13, text_place(text));
             return false;
         };
         let (number, table) = T::fresh(&esi);
-        self.line(b'p', number);
+        self.placed_line(b'p', number, 0);
         self.table = Some(table);
         number == 0
     }
@@ -135,6 +135,17 @@ impl<T: Segment> Bench<T> {
         self.lines.push(b'\n');
     }
 
+    /// A line that ends with a place after the numbers that have one.
+    fn placed_line(&mut self, letter: u8, number: u8, place: u8) {
+        self.line(letter, number);
+        if matches!(number, 1..=4 | 6 | 13) {
+            self.lines.pop();
+            self.lines.push(b' ');
+            self.decimal(place);
+            self.lines.push(b'\n');
+        }
+    }
+
     fn decimal(&mut self, number: u8) {
         if number >= 100 {
             self.lines.push(b'0' + number / 100);
@@ -148,6 +159,27 @@ impl<T: Segment> Bench<T> {
 
 fn word(octets: &[u8]) -> u32 {
     u32::from_be_bytes([octets[0], octets[1], octets[2], octets[3]])
+}
+
+/// Where a route of 25 octets is wrong, by its number: the length octet, the type, the address length, the identifier or the address.
+fn route_place(number: u8) -> u8 {
+    match number {
+        1 => 1,
+        3 => 20,
+        4 => 10,
+        6 => 21,
+        _ => 0,
+    }
+}
+
+/// Where a text is wrong that says no identifier: its first wrong character, or where one is missing or too many.
+fn text_place(text: &[u8]) -> u8 {
+    let wrong = |(place, character): &(usize, &u8)| match place % 3 {
+        2 => **character != b':',
+        _ => digit(**character).is_none(),
+    };
+    let first = text.iter().take(29).enumerate().find(wrong);
+    first.map_or(text.len().min(29), |(place, _)| place) as u8
 }
 
 /// The identifier that a text of 29 characters says.
