@@ -6,7 +6,6 @@ use mathlib.Core.Bool.{Bool, true, false, cond}
 use lib.Dec.{ltb, eqb}
 use borrow.Author.Tests.{ltb-true, ltb-false, eqb-true, eqb-false}
 use Rattle.address.specs.Address.{addressKey, isZero, orderOf}
-use Rattle.address.specs.declared.Order.{Order}
 use Rattle.address.specs.declared.Order.the-variants.{Less, Equal, Greater}
 
 pub less : (j k : ℕ) → orderOf j k ≡ Less → j < k

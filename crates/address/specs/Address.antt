@@ -2,7 +2,8 @@
 --   addressKey a   == the number that addresses are ordered by
 --   isZero a       == whether a is the address 0.0.0.0
 --   orderOf j k    == how the key j stands to the key k
-use Prim.Native.Nat.{ℕ}
+--   classOf a      == one of 1,024 classes that a falls into; no document asks for it
+use Prim.Native.Nat.{ℕ, _%_}
 use mathlib.Core.Bool.{Bool, cond}
 use lib.Dec.{ltb, eqb}
 use Rattle.address.specs.declared.Order.{Order}
@@ -16,3 +17,6 @@ isZero a = eqb (addressKey a) 0
 
 unfoldable pub orderOf : ℕ → ℕ → Order
 orderOf j k = cond (ltb j k) Less (cond (eqb j k) Equal Greater)
+
+unfoldable pub classOf : ℕ → ℕ
+classOf a = addressKey a % 1024

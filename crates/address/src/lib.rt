@@ -2,7 +2,8 @@
 // Everything else compares addresses through this crate only.
 ghost use mathlib.Core.Path.{_≡_};
 ghost use lib.Dec.{ltb, eqb};
-ghost use Rattle.address.specs.Address.{addressKey, isZero, orderOf};
+ghost use Rattle.address.specs.Address.{addressKey, isZero, orderOf, classOf};
+ghost use Prim.Native.Nat.{_<_};
 
 pub type Address = u32;
 
@@ -45,4 +46,11 @@ pub fn compare(a: Address, b: Address) -> Order
         return Order::Equal;
     }
     Order::Greater
+}
+
+// One of 1,024 classes that an address falls into, for hints about where an address may stand.
+pub fn class(a: Address) -> usize
+    ensures { λ r. ⌜ (r ≡ classOf a) × (r < 1024) ⌝ }
+{
+    (a % 1024) as usize
 }

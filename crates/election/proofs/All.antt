@@ -8,8 +8,7 @@ use mathlib.Core.Bool.{true, false}
 use mathlib.Core.List.{List, [], _∷_}
 use lib.ListN.{length, getD, replicate}
 use lib.Count.{ones}
-use Rattle.table.specs.declared.Table.{Table}
-use Rattle.table.specs.Table.{none, live, WellFormed}
+use Rattle.table.specs.Table.{Table, none, live, WellFormed}
 use Rattle.places.specs.Places.{places, setOf}
 use Rattle.places.proofs.Laws.{places-none, length-places}
 use Rattle.places.proofs.Flags.{truesFrom, places-setOf, setOf-fits}
@@ -96,6 +95,6 @@ module _ (t : Table) (w : WellFormed t) (tag a : ℕ) (e : inUse (live t) ≡ us
       pub all-below : at < 64
       all-below = place-there t w tag [] (usedWith a false) es (sym e) (is-set []) some at r
 
-      pub all-named : (ready : List ℕ) → namedOf (getD (t .entries) at none) a (t .count) es ≡ answerFor (t .esi) (live t) tag ready
+      pub all-named : (ready : List ℕ) → namedOf (getD (t .entries) at none .address) a (t .count) es ≡ answerFor (t .esi) (live t) tag ready
       all-named ready =
           forwarder t w tag ready (usedWith a false) es (sym e) (is-set ready) some (t .count) at (length-all (t .count) (w .short)) (ones-all (t .count) (w .short)) r .0

@@ -9,9 +9,7 @@ use lib.ListN.{length, getD, replicate, length-map, List·getD-eq-default}
 use lib.Dec.{ltb, eqb}
 use lib.Count.{ones}
 use borrow.Author.Tests.{lt-ltb, le-ltb, eq-eqb, ne-eqb, ltb-true, eqb-true, eqb-false}
-use Rattle.table.specs.declared.Entry.{Entry}
-use Rattle.table.specs.declared.Table.{Table}
-use Rattle.table.specs.Table.{keyOf, none, live, WellFormed}
+use Rattle.table.specs.Table.{Entry, Table, keyOf, none, live, WellFormed}
 use Rattle.table.proofs.Laws.{length-live, length-entries, at-live}
 use Rattle.places.specs.Places.{places, setOf, picked}
 use Rattle.places.proofs.Laws.{Rises, places-none, places-empty, length-places, place-lt}

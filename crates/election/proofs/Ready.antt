@@ -1,67 +1,81 @@
--- The set of places whose address is on a ready list, place by place, and the list address by address. Assumes nothing.
-use Prim.Native.Nat.{ℕ, _+_, _≤_, _<_}
+-- The set of places whose address is on a ready list, address by address. Assumes nothing.
+use Prim.Native.Nat.{ℕ, suc, _+_, _<_}
+use native.Mathlib.Nat.{le-of-suc-le-suc, not-suc-le-zero}
 use native.Mathlib.Numerals.{add-one}
 use native.Mathlib.Omega.{arith}
-use mathlib.Core.Path.{_≡_, refl, ap, _∙_, sym}
-use mathlib.Core.Bool.{Bool, true, false, _||_, or-false, or-true}
-use mathlib.Core.List.{List, [], _∷_, _++_, map, map-append}
-use lib.ListN.{length, getD, take, drop, length-map, drop-of-length-le}
-use lib.Seq.{take-suc, drop-cons, length-take-le}
+use mathlib.Core.Path.{_≡_, refl, ap, ap₂, _∙_, sym}
+use mathlib.Core.Bool.{Bool, true, false, _||_, or-assoc, or-false, or-true}
+use mathlib.Core.List.{List, [], _∷_, _++_, map}
+use lib.ListN.{length, getD, set, take, length-map}
+use lib.Seq.{take-suc}
 use lib.Dec.{eqb}
+use borrow.Author.Tests.{eq-eqb, ne-eqb, eqb-false, lt-ltb, le-ltb}
 use Rattle.address.specs.Address.{addressKey}
-use Rattle.table.specs.declared.Entry.{Entry}
-use Rattle.table.specs.declared.Table.{Table}
-use Rattle.table.specs.Table.{live, WellFormed}
-use Rattle.table.proofs.Laws.{length-live, at-live}
+use Rattle.keyed.specs.Keyed.{Rising, has, rank}
+use Rattle.keyed.proofs.Keyed.{either, Present, has-below}
+use Rattle.keyed.proofs.Order.{or-left, or-right}
+use Rattle.table.specs.declared.Found.the-variants.{At, Missing}
+use Rattle.table.specs.Table.{Entry, Table, keyOf, none, live, WellFormed}
+use Rattle.table.specs.Steps.{foundIn}
+use Rattle.table.proofs.Laws.{length-live}
+use Rattle.table.proofs.Calls.{at-rank, present, at-length, missing-there}
 use Rattle.places.specs.Places.{setOf, withPlace}
-use Rattle.places.proofs.Flags.{setOf-last, withPlace-last}
+use Rattle.places.proofs.Flags.{withPlace-set}
 use Rattle.election.specs.Election.{onList}
 
--- THE LIST: whether an address was found so far, or is on the rest
-module _ (s : List ℕ) (a : ℕ) where
-  on-step : (i : ℕ) → i < length s → onList (drop i s) a ≡ (eqb (addressKey (getD s i 0)) (addressKey a) || onList (drop (i + 1) s) a)
-  unfolding onList
-  on-step i h = rw (add-one, drop-cons s i 0 h)
+-- one key more on a list of flags
+module _ {A : Type 0} (key : A → ℕ) (f : A → Bool) (k : ℕ) where
+  abbrev marked : A → Bool
+  marked x = f x || eqb k (key x)
 
-  module _ (i : ℕ) (h : i < length s) (b : Bool) (q : (b || onList (drop i s) a) ≡ onList s a) where
-    pub on-found : eqb (addressKey (getD s i 0)) (addressKey a) ≡ true → (true || onList (drop (i + 1) s) a) ≡ onList s a
-    on-found e = sym (ap (b ||_) (on-step i h ∙ rw e) ∙ or-true b) ∙ q
+  mark-absent : (l : List A) → has key k l ≡ false → map marked l ≡ map f l
+  unfolding has
+  mark-absent [] h = refl
+  mark-absent (x ∷ l) h =
+      let n : k ≡ key x → ⊥ = λ e. eqb-false (key x) k (or-left (eqb (key x) k) (has key k l) h) (sym e) in
+      ap₂ (λ (b : Bool) (m : List Bool). b ∷ m) (rw (ne-eqb k (key x) n) (or-false (f x))) (mark-absent l (or-right (eqb (key x) k) (has key k l) h))
 
-    pub on-passed : eqb (addressKey (getD s i 0)) (addressKey a) ≡ false → (b || onList (drop (i + 1) s) a) ≡ onList s a
-    on-passed e = sym (ap (b ||_) (on-step i h ∙ rw e)) ∙ q
-
-  pub on-end : (i : ℕ) (b : Bool) → length s ≤ i → (b || onList (drop i s) a) ≡ onList s a → b ≡ onList s a
-  unfolding onList
-  on-end i b h q = sym (ap (λ (l : List ℕ). b || onList l a) (drop-of-length-le s {i = i} h) ∙ or-false b) ∙ q
+  mark-present : (l : List A) (n : ℕ) (d : A) → Rising key n l → Present key k l d → map marked l ≡ set (map f l) (rank key k l) true
+  unfolding rank Rising
+  mark-present [] n d r = λ p. absurd (not-suc-le-zero (p .0))
+  mark-present (x ∷ l) n d r =
+      either (key x) k
+      (λ p. rw (lt-ltb (key x) k p, ne-eqb k (key x) (λ e. omega arith), or-false (f x)) (λ q. ap (f x ∷_) (mark-present l (suc (key x)) d (r .1) (le-of-suc-le-suc (q .0), q .1))))
+      (λ p. rw (le-ltb (key x) k p) (λ q.
+      rw (eq-eqb k (key x) (sym (q .1)), or-true (f x)) (ap (true ∷_) (mark-absent l (has-below key k l (suc (key x)) (r .1) (omega (arith, q .1)))))))
 
 -- THE READY SET of a table
 abbrev pub flags : List ℕ → List Entry → List Bool
 flags rs l = map (λ (e : Entry). onList rs (e .address)) l
 
-pub ready-none : (ready : List ℕ) (l : List Entry) → 0 ≡ setOf (flags ready (take 0 l))
-unfolding setOf
-ready-none ready l = refl
+on-snoc : (rs : List ℕ) (b a : ℕ) → onList (rs ++ b ∷ []) a ≡ (onList rs a || eqb (addressKey b) (addressKey a))
+unfolding onList
+on-snoc [] b a = or-false (eqb (addressKey b) (addressKey a))
+on-snoc (r ∷ rs) b a =
+    ap (λ (x : Bool). eqb (addressKey r) (addressKey a) || x) (on-snoc rs b a)
+    ∙ sym (or-assoc (eqb (addressKey r) (addressKey a)) (onList rs a) (eqb (addressKey b) (addressKey a)))
 
-module _ (t : Table) (w : WellFormed t) (ready : List ℕ) (i : ℕ) (d : Entry) (h : i < t .count) (s : ℕ) (q : s ≡ setOf (flags ready (take i (live t)))) where
-  abbrev passed : List Bool
-  passed = flags ready (take i (live t))
+flags-snoc : (rs : List ℕ) (b : ℕ) (l : List Entry) → flags (rs ++ b ∷ []) l ≡ map (marked keyOf (λ (e : Entry). onList rs (e .address)) (addressKey b)) l
+flags-snoc rs b [] = refl
+flags-snoc rs b (e ∷ l) = ap₂ (λ (x : Bool) (m : List Bool). x ∷ m) (on-snoc rs b (e .address)) (flags-snoc rs b l)
 
-  length-passed : length passed ≡ i
-  length-passed = length-map (take i (live t)) _ ∙ length-take-le i (live t) (omega (arith, length-live t w))
+pub ready-none : (l : List Entry) → 0 ≡ setOf (flags [] l)
+unfolding setOf onList
+ready-none [] = refl
+ready-none (e ∷ l) = rw (← ready-none l)
 
-  next : (b : Bool) → onList ready (getD (t .entries) i d .address) ≡ b → flags ready (take (i + 1) (live t)) ≡ passed ++ b ∷ []
-  next b e =
-      ap (flags ready) (ap (λ (n : ℕ). take n (live t)) (add-one i) ∙ take-suc (live t) i d (omega (arith, length-live t w)))
-      ∙ map-append (λ (e : Entry). onList ready (e .address)) (take i (live t)) (getD (live t) i d ∷ [])
-      ∙ ap (λ (x : Bool). passed ++ x ∷ []) (ap (λ (x : Entry). onList ready (x .address)) (at-live t w i d h) ∙ e)
+module _ (t : Table) (w : WellFormed t) (ready : List ℕ) (i : ℕ) (h : i < length ready) (s : ℕ) (q : s ≡ setOf (flags (take i ready) (live t))) where
+  next : flags (take (i + 1) ready) (live t) ≡ map (marked keyOf (λ (e : Entry). onList (take i ready) (e .address)) (addressKey (getD ready i 0))) (live t)
+  next = rw (add-one, take-suc ready i 0 h) (flags-snoc (take i ready) (getD ready i 0) (live t))
 
-  pub ready-on : onList ready (getD (t .entries) i d .address) ≡ true → withPlace s i ≡ setOf (flags ready (take (i + 1) (live t)))
-  ready-on e =
-      let l = length-passed in
-      ap (λ (x : ℕ). withPlace x i) q
-      ∙ ap (withPlace (setOf passed)) (sym l)
-      ∙ withPlace-last passed (omega (arith, l, w .short))
-      ∙ ap setOf (sym (next true e))
+  pub ready-found : (j : ℕ) → foundIn (addressKey (getD ready i 0)) (live t) ≡ At j → withPlace s j ≡ setOf (flags (take (i + 1) ready) (live t))
+  ready-found j f =
+      let k = addressKey (getD ready i 0) in
+      let l : length (flags (take i ready) (live t)) ≡ t .count = length-map (live t) _ ∙ length-live t w in
+      rw (q, next, mark-present keyOf (λ (e : Entry). onList (take i ready) (e .address)) k (live t) 1 none (w .rising) (present t w k j f), ← at-rank t w k j f)
+      (withPlace-set (flags (take i ready) (live t)) j (omega (arith, at-length t w k j f, length-live t w, l)) (omega (arith, l, w .short)))
 
-  pub ready-off : onList ready (getD (t .entries) i d .address) ≡ false → s ≡ setOf (flags ready (take (i + 1) (live t)))
-  ready-off e = q ∙ sym (setOf-last passed) ∙ ap setOf (sym (next false e))
+  pub ready-stranger : (j : ℕ) → foundIn (addressKey (getD ready i 0)) (live t) ≡ Missing j → s ≡ setOf (flags (take (i + 1) ready) (live t))
+  ready-stranger j f =
+      let k = addressKey (getD ready i 0) in
+      q ∙ ap setOf (sym (next ∙ mark-absent keyOf (λ (e : Entry). onList (take i ready) (e .address)) k (live t) (missing-there t w k j f)))

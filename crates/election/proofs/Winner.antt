@@ -9,8 +9,7 @@ use lib.Dec.{ltb, eqb}
 use borrow.Author.Tests.{lt-ltb, le-ltb, eqb-true}
 use Rattle.keyed.specs.Keyed.{Rising}
 use Rattle.keyed.proofs.Order.{Tri, less, equal, more, tri}
-use Rattle.table.specs.declared.Entry.{Entry}
-use Rattle.table.specs.Table.{keyOf, none}
+use Rattle.table.specs.Table.{Entry, keyOf, none}
 use Rattle.hrw.specs.Weight.{weightOf}
 use Rattle.places.specs.Places.{picked}
 use Rattle.choice.specs.Choice.{best, bestOf, decided, lower, andThen}

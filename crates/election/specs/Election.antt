@@ -21,8 +21,7 @@ use mathlib.Core.List.{List, [], _∷_, map}
 use lib.ListN.{length, getD}
 use lib.Dec.{ltb, eqb}
 use Rattle.address.specs.Address.{addressKey}
-use Rattle.table.specs.declared.Entry.{Entry}
-use Rattle.table.specs.Table.{keyOf, none}
+use Rattle.table.specs.Table.{Entry, keyOf, none}
 use Rattle.places.specs.Places.{setOf, picked}
 use Rattle.choice.specs.Choice.{bestOf, higher, lower, flagged, andThen, byScore}
 use Rattle.hrw.specs.Weight.{digestOf, weightOf}

@@ -1,18 +1,22 @@
 // The Designated Forwarder election for one Ethernet Tag: which algorithm is in use, who is a candidate, and who is elected.
 // Candidates are a set of places of the table, one bit each: N is its ones, and its places are found by trailing zeros.
 use address::Address;
-use table::Entry;
+use table::ATTRIBUTES;
 use table::Found;
-use table::Table;
+use table::KIND;
 ghost use mathlib.Core.Path.{_≡_};
 ghost use mathlib.Core.List.{List, map};
 ghost use mathlib.Core.Bool.{true, false};
 ghost use Prim.Native.Nat.{ℕ};
+ghost use lib.ListN.{length};
 ghost use lib.Count.{ones};
-ghost use Rattle.table.specs.Table.{live, WellFormed};
+ghost use Rattle.address.specs.Address.{addressKey};
+ghost use Rattle.table.specs.Table.{live};
+ghost use Rattle.table.specs.Words.{tableIn, Valid};
+ghost use Rattle.table.specs.Steps.{foundIn};
 ghost use Rattle.places.specs.Places.{places, setOf};
 ghost use Rattle.election.specs.Election.{inUse, onList, electOf, refused, NoneNamed};
-ghost use Rattle.election.specs.Steps.{withBit, scoreOf, beats, bestPlace, placesIn, usedWith, digestUnder, answerFor, namedOf};
+ghost use Rattle.election.specs.Steps.{allOfKind, scoreIn, beats, bestPlace, placesIn, usedWith, digestUnder, answerFor, namedOf};
 
 // The algorithm and the AC-DF bit that an election goes by.
 pub struct InUse {
@@ -34,93 +38,121 @@ const FALLBACK: InUse = InUse {
     ac_df: false,
 };
 
-// The algorithm in use: that of all routes, if they carry one algorithm from 0 to 3 and one AC-DF bit; otherwise 0 without AC-DF.
-pub fn in_use(t: Table) -> InUse
-    requires { ⌜ WellFormed t ⌝ }
-    ensures { λ r. ⌜ r ≡ inUse (live t) ⌝ }
+// Whether all words of attributes are of one kind, an algorithm and an AC-DF bit. All of them are looked at, which the compiler makes several looks at once.
+fn all_of_kind(words: &[u32], kind: u32) -> bool
+    ensures { λ r. ⌜ r ≡ allOfKind kind (now (words .entry)) ⌝ }
 {
-    let n = t.count;
+    let mut same = true;
+    let mut i = 0;
+    while i < words.len() {
+        if words[i] / KIND != kind {
+            same = false;
+        }
+        i += 1;
+    }
+    same
+}
+
+// The algorithm in use: that of all routes, if they carry one algorithm from 0 to 3 and one AC-DF bit; otherwise 0 without AC-DF.
+pub fn in_use(t: &[u32]) -> InUse
+    requires { ⌜ Valid (now t) ⌝ }
+    ensures { λ r. ⌜ r ≡ inUse (live (tableIn (now (t .entry)))) ⌝ }
+{
+    let n = table::count(t);
     if n == 0 {
         return FALLBACK;
     }
-    let first = t.entries[0];
-    let algorithm = first.algorithm;
-    let ac_df = first.ac_df;
-    if 3 < algorithm {
+    let kind = t[ATTRIBUTES] / KIND;
+    if 7 < kind {
         return FALLBACK;
     }
-    let mut i = 1;
-    while i < n {
-        let e = t.entries[i];
-        if e.algorithm != algorithm {
-            return FALLBACK;
-        }
-        if e.ac_df != ac_df {
-            return FALLBACK;
-        }
-        i += 1;
+    let end = ATTRIBUTES + n;
+    if !all_of_kind(&t[ATTRIBUTES..end], kind) {
+        return FALLBACK;
     }
+    let algorithm = (kind / 2) as u8;
     InUse {
         algorithm: algorithm,
-        ac_df: ac_df,
+        ac_df: kind % 2 == 1,
     }
 }
 
-// Whether an address is on the ready list. All of the list is looked at, which the compiler makes several looks at once.
-fn on_list(ready: &[Address], address: Address) -> bool
-    ensures { λ r. ⌜ r ≡ onList (now (ready .entry)) address ⌝ }
+// Notes for each class of addresses the place of an address that is in it. What is noted is a hint and no more: any will do.
+fn note_places(addresses: &[u32], hints: &mut [u8])
+    requires { ⌜ length (now hints) ≡ 1024 ⌝ }
+    ensures { λ _. ⌜ length (now (hints .exit)) ≡ 1024 ⌝ }
 {
-    let mut found = false;
     let mut i = 0;
-    while i < ready.len() {
-        if address::same(ready[i], address) {
-            found = true;
-        }
+    while i < addresses.len() {
+        let class = address::class(addresses[i]);
+        hints[class] = (i % 256) as u8;
         i += 1;
     }
-    found
 }
 
-// The set of the places whose address is on the ready list. Repeats and strangers in the list do no harm.
-pub fn ready_set(t: Table, ready: &[Address]) -> u64
-    requires { ⌜ WellFormed t ⌝ }
-    ensures { λ r. ⌜ r ≡ setOf (map (λ e. onList (now (ready .entry)) (e .address)) (live t)) ⌝ }
+// Where an address stands: at the place that is hinted at, or else by a search.
+fn find_near(t: &[u32], hint: usize, address: Address) -> Found
+    requires { ⌜ Valid (now t) ⌝ }
+    ensures { λ r. ⌜ r ≡ foundIn (addressKey address) (live (tableIn (now (t .entry)))) ⌝ }
 {
-    let n = t.count;
+    if hint < table::count(t) {
+        if address::same(t[hint], address) {
+            return Found::At(hint);
+        }
+    }
+    table::find(t, address)
+}
+
+// A hint as a place.
+fn as_place(hint: u8) -> usize
+    ensures { λ r. ⌜ r ≡ hint ⌝ }
+{
+    hint as usize
+}
+
+// The set of the places whose address is on the ready list, with hints where they stand.
+fn ready_near(t: &[u32], ready: &[Address], hints: &[u8]) -> u64
+    requires { ⌜ Valid (now t) × (length (now hints) ≡ 1024) ⌝ }
+    ensures { λ r. ⌜ r ≡ setOf (map (λ e. onList (now (ready .entry)) (e .address)) (live (tableIn (now (t .entry))))) ⌝ }
+{
     let mut set = 0;
-    let mut at = 0;
-    while at < n {
-        let e = t.entries[at];
-        if on_list(ready, e.address) {
+    let mut next = 0;
+    while next < ready.len() {
+        let address = ready[next];
+        let class = address::class(address);
+        let hint = as_place(hints[class]);
+        let found = find_near(t, hint, address);
+        if let Found::At(at) = found {
             set = places::with(set, at);
         }
-        at += 1;
+        next += 1;
     }
     set
 }
 
-// A preference and a bit behind it.
-fn with_bit(preference: u16, bit: bool) -> u32
-    ensures { λ r. ⌜ r ≡ withBit preference bit ⌝ }
+// The set of the places whose address is on the ready list. Repeats and strangers in the list do no harm.
+pub fn ready_set(t: &[u32], ready: &[Address]) -> u64
+    requires { ⌜ Valid (now t) ⌝ }
+    ensures { λ r. ⌜ r ≡ setOf (map (λ e. onList (now (ready .entry)) (e .address)) (live (tableIn (now (t .entry))))) ⌝ }
 {
-    let p = preference as u32;
-    if bit {
-        return p * 2 + 1;
-    }
-    p * 2
+    let mut hints = [0u8; 1024];
+    let n = table::count(t);
+    note_places(&t[0..n], &mut hints);
+    ready_near(t, ready, &hints)
 }
 
-// The number by which a candidate is preferred under algorithm 1, 2 or 3.
-fn score(e: Entry, algorithm: u8, digest: u32) -> u32
-    ensures { λ r. ⌜ r ≡ scoreOf algorithm digest e ⌝ }
+// The number by which a candidate is preferred under algorithm 1, 2 or 3: its weight, or its preference with the DP bit behind it, turned round under 3.
+fn score(address: Address, attributes: u32, algorithm: u8, digest: u32) -> u32
+    ensures { λ r. ⌜ r ≡ scoreIn algorithm digest address attributes ⌝ }
 {
     if algorithm == 1 {
-        return hrw::weight(e.address, digest);
+        return hrw::weight(address, digest);
     }
+    let low = attributes % KIND;
     if algorithm == 3 {
-        return with_bit(e.preference, !e.dp);
+        return low ^ 1;
     }
-    with_bit(e.preference, e.dp)
+    low
 }
 
 // Whether a score is to be preferred to another: the lower one under algorithm 3, else the greater one.
@@ -137,21 +169,19 @@ fn score_beats(algorithm: u8, s: u32, r: u32) -> bool
 }
 
 // Of a set of places, the first whose entry has the best score; 64 for the empty set.
-pub fn best_place(t: Table, set: u64, algorithm: u8, digest: u32) -> usize
-    requires { ⌜ WellFormed t ⌝ }
-    ensures { λ r. ⌜ r ≡ bestPlace algorithm digest (t .entries) (places set) ⌝ }
+pub fn best_place(t: &[u32], set: u64, algorithm: u8, digest: u32) -> usize
+    requires { ⌜ Valid (now t) ⌝ }
+    ensures { λ r. ⌜ r ≡ bestPlace algorithm digest (tableIn (now (t .entry)) .entries) (places set) ⌝ }
 {
     if set == 0 {
         return 64;
     }
     let mut at = places::first(set);
-    let e = t.entries[at];
-    let mut top = score(e, algorithm, digest);
+    let mut top = score(t[at], t[ATTRIBUTES + at], algorithm, digest);
     let mut left = places::rest(set);
     while left != 0 {
         let next = places::first(left);
-        let f = t.entries[next];
-        let s = score(f, algorithm, digest);
+        let s = score(t[next], t[ATTRIBUTES + next], algorithm, digest);
         if score_beats(algorithm, s, top) {
             at = next;
             top = s;
@@ -162,21 +192,19 @@ pub fn best_place(t: Table, set: u64, algorithm: u8, digest: u32) -> usize
 }
 
 // Of all places in use, the first whose entry has the best score; 64 where there is none.
-fn best_in_use(t: Table, algorithm: u8, digest: u32) -> usize
-    requires { ⌜ WellFormed t ⌝ }
-    ensures { λ r. ⌜ r ≡ bestPlace algorithm digest (t .entries) (placesIn 0 (t .count)) ⌝ }
+fn best_in_use(t: &[u32], algorithm: u8, digest: u32) -> usize
+    requires { ⌜ Valid (now t) ⌝ }
+    ensures { λ r. ⌜ r ≡ bestPlace algorithm digest (tableIn (now (t .entry)) .entries) (placesIn 0 (tableIn (now (t .entry)) .count)) ⌝ }
 {
-    let n = t.count;
+    let n = table::count(t);
     if n == 0 {
         return 64;
     }
     let mut at = 0;
-    let e = t.entries[0];
-    let mut top = score(e, algorithm, digest);
+    let mut top = score(t[0], t[ATTRIBUTES], algorithm, digest);
     let mut next = 1;
     while next < n {
-        let f = t.entries[next];
-        let s = score(f, algorithm, digest);
+        let s = score(t[next], t[ATTRIBUTES + next], algorithm, digest);
         if score_beats(algorithm, s, top) {
             at = next;
             top = s;
@@ -187,13 +215,14 @@ fn best_in_use(t: Table, algorithm: u8, digest: u32) -> usize
 }
 
 // The digest of a tag on the table's segment, which only algorithm 1 asks for; 0 under the others.
-fn digest_under(t: Table, algorithm: u8, tag: u32) -> u32
-    ensures { λ r. ⌜ r ≡ digestUnder algorithm tag (t .esi) ⌝ }
+fn digest_under(t: &[u32], algorithm: u8, tag: u32) -> u32
+    requires { ⌜ Valid (now t) ⌝ }
+    ensures { λ r. ⌜ r ≡ digestUnder algorithm tag (tableIn (now (t .entry)) .esi) ⌝ }
 {
     if algorithm != 1 {
         return 0;
     }
-    let esi = t.esi;
+    let esi = table::identifier(t);
     hrw::digest(tag, esi)
 }
 
@@ -209,13 +238,13 @@ fn refusal(number: u8) -> Answer
     }
 }
 
-// The answer that names an entry.
-fn named(e: Entry, algorithm: u8, n: u32, set: u64) -> Answer
-    ensures { λ r. ⌜ r ≡ namedOf e algorithm n set ⌝ }
+// The answer that names an address.
+fn named(address: Address, algorithm: u8, n: u32, set: u64) -> Answer
+    ensures { λ r. ⌜ r ≡ namedOf address algorithm n set ⌝ }
 {
     Answer {
         number: 0,
-        address: e.address,
+        address: address,
         algorithm: algorithm,
         n: n,
         candidates: set,
@@ -223,16 +252,17 @@ fn named(e: Entry, algorithm: u8, n: u32, set: u64) -> Answer
 }
 
 // The answer where all routes are candidates, by plain place: 12 where there is none.
-fn elect_all(t: Table, algorithm: u8, tag: u32) -> Answer
-    requires { ⌜ WellFormed t × (inUse (live t) ≡ usedWith algorithm false) ⌝ }
-    ensures answer { λ r. ⌜ ((ready : List ℕ) → r ≡ answerFor (t .esi) (live t) tag ready) ⌝ }
+fn elect_all(t: &[u32], algorithm: u8, tag: u32) -> Answer
+    requires { ⌜ Valid (now t) × (inUse (live (tableIn (now t))) ≡ usedWith algorithm false) ⌝ }
+    ensures answer { λ r. ⌜ ((ready : List ℕ) → r ≡ answerFor (tableIn (now (t .entry)) .esi) (live (tableIn (now (t .entry)))) tag ready) ⌝ }
     ensures counted { λ r. ⌜ r .n ≡ ones (r .candidates) ⌝ }
 {
-    let n = t.count as u32;
+    let many = table::count(t);
+    let n = many as u32;
     if n == 0 {
         return refusal(12);
     }
-    let set = places::below(t.count);
+    let set = places::below(many);
     let mut at = 64;
     if algorithm == 0 {
         at = (tag % n) as usize;
@@ -240,14 +270,13 @@ fn elect_all(t: Table, algorithm: u8, tag: u32) -> Answer
         let digest = digest_under(t, algorithm, tag);
         at = best_in_use(t, algorithm, digest);
     }
-    let e = t.entries[at];
-    named(e, algorithm, n, set)
+    named(t[at], algorithm, n, set)
 }
 
 // The answer with AC-DF in use, where those on the ready list are candidates: 12 where there is none. N is the number of the ones of their set.
-fn elect_ready(t: Table, algorithm: u8, tag: u32, ready: &[Address]) -> Answer
-    requires { ⌜ WellFormed t × (inUse (live t) ≡ usedWith algorithm true) ⌝ }
-    ensures answer { λ r. ⌜ r ≡ answerFor (t .esi) (live t) tag (now (ready .entry)) ⌝ }
+fn elect_ready(t: &[u32], algorithm: u8, tag: u32, ready: &[Address]) -> Answer
+    requires { ⌜ Valid (now t) × (inUse (live (tableIn (now t))) ≡ usedWith algorithm true) ⌝ }
+    ensures answer { λ r. ⌜ r ≡ answerFor (tableIn (now (t .entry)) .esi) (live (tableIn (now (t .entry)))) tag (now (ready .entry)) ⌝ }
     ensures counted { λ r. ⌜ r .n ≡ ones (r .candidates) ⌝ }
 {
     let set = ready_set(t, ready);
@@ -262,14 +291,13 @@ fn elect_ready(t: Table, algorithm: u8, tag: u32, ready: &[Address]) -> Answer
         let digest = digest_under(t, algorithm, tag);
         at = best_place(t, set, algorithm, digest);
     }
-    let e = t.entries[at];
-    named(e, algorithm, n, set)
+    named(t[at], algorithm, n, set)
 }
 
 // The answer once the tag and the list are accepted: 12 where no candidate is eligible.
-fn elect_accepted(t: Table, tag: u32, ready: &[Address]) -> Answer
-    requires { ⌜ WellFormed t ⌝ }
-    ensures answer { λ r. ⌜ r ≡ answerFor (t .esi) (live t) tag (now (ready .entry)) ⌝ }
+fn elect_accepted(t: &[u32], tag: u32, ready: &[Address]) -> Answer
+    requires { ⌜ Valid (now t) ⌝ }
+    ensures answer { λ r. ⌜ r ≡ answerFor (tableIn (now (t .entry)) .esi) (live (tableIn (now (t .entry)))) tag (now (ready .entry)) ⌝ }
     ensures counted { λ r. ⌜ r .n ≡ ones (r .candidates) ⌝ }
 {
     let u = in_use(t);
@@ -281,11 +309,11 @@ fn elect_accepted(t: Table, tag: u32, ready: &[Address]) -> Answer
 
 // Elects the Designated Forwarder for a tag: 10 for tag 0 or 4,294,967,295, 11 for a ready list over 64, 12 where no candidate is eligible.
 // N is the number of the ones of the candidate set.
-pub fn elect(t: Table, tag: u32, ready: &[Address]) -> Answer
-    requires { ⌜ WellFormed t ⌝ }
-    ensures answer { λ r. ⌜ r ≡ electOf (t .esi) (live t) tag (now (ready .entry)) ⌝ }
+pub fn elect(t: &[u32], tag: u32, ready: &[Address]) -> Answer
+    requires { ⌜ Valid (now t) ⌝ }
+    ensures answer { λ r. ⌜ r ≡ electOf (tableIn (now (t .entry)) .esi) (live (tableIn (now (t .entry)))) tag (now (ready .entry)) ⌝ }
     ensures counted { λ r. ⌜ r .n ≡ ones (r .candidates) ⌝ }
-    ensures none_named { λ r. ⌜ NoneNamed (live t) tag (now (ready .entry)) r ⌝ }
+    ensures none_named { λ r. ⌜ NoneNamed (live (tableIn (now (t .entry)))) tag (now (ready .entry)) r ⌝ }
 {
     if tag == 0 {
         return refusal(10);

@@ -13,9 +13,7 @@ use borrow.Author.Tests.{eq-eqb, ne-eqb, eqb-false}
 use Rattle.octets.specs.Octets.{numberOf}
 use Rattle.octets.proofs.Laws.{elements, take-elements}
 use Rattle.route.specs.Route.{routeAddress}
-use Rattle.table.specs.declared.Table.{Table}
-use Rattle.table.specs.declared.Change.{Change}
-use Rattle.table.specs.Table.{live, ownerOf, freshTable, announced, withdrawn}
+use Rattle.table.specs.Table.{Table, Change, live, ownerOf, freshTable, announced, withdrawn}
 use Rattle.hrw.specs.Weight.{digestOf}
 use Rattle.election.specs.declared.Answer.{Answer}
 use Rattle.returning.specs.declared.Sent.{Sent}
@@ -82,14 +80,14 @@ module _ (i s : List ℕ) where
   unfolding fillSum times
   fill-none = refl
 
-  pub fill-next : (n sum : ℕ) (t : Table) → sum ≡ fillSum i s n → t ≡ loadedTable i s → bitXor sum (t .count) ≡ fillSum i s (n + 1)
+  pub fill-next : (n sum k : ℕ) (t : Table) → sum ≡ fillSum i s n → t ≡ loadedTable i s → k ≡ t .count → bitXor sum k ≡ fillSum i s (n + 1)
   unfolding fillSum
-  fill-next n sum t e l = ap (λ (t : Table). bitXor sum (t .count)) l ∙ times-step {S = ℕ} (λ _ x. withNumber x (loadedTable i s .count)) 0 n sum e
+  fill-next n sum k t e l q = ap (bitXor sum) (q ∙ ap (λ (t : Table). t .count) l) ∙ times-step {S = ℕ} (λ _ x. withNumber x (loadedTable i s .count)) 0 n sum e
 
 -- LOOPS THAT LEAVE THEIR TABLE
-pub owner : (i : List ℕ) (r : Change) → r ≡ freshTable i → r .table .esi ≡ ownerOf i
+pub owner : (i : List ℕ) (t : Table) → t ≡ freshTable i .table → t .esi ≡ ownerOf i
 unfolding freshTable
-owner i r e = ap (λ (r : Change). r .table .esi) e
+owner i t e = ap (λ (t : Table). t .esi) e
 
 module _ (i : List ℕ) where
   pub digest-none : 0 ≡ digestSum i 0

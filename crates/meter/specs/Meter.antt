@@ -22,9 +22,7 @@ use lib.ListN.{length, take, drop}
 use lib.Dec.{eqb}
 use lib.Bits.{bitXor}
 use Rattle.route.specs.Route.{routeAddress}
-use Rattle.table.specs.declared.Table.{Table}
-use Rattle.table.specs.declared.Change.{Change}
-use Rattle.table.specs.Table.{live, freshTable, announced, withdrawn}
+use Rattle.table.specs.Table.{Table, Change, live, freshTable, announced, withdrawn}
 use Rattle.hrw.specs.Weight.{digestOf}
 use Rattle.election.specs.declared.Answer.{Answer}
 use Rattle.election.specs.Election.{electOf}

@@ -2,10 +2,10 @@
 // community's 8, does a number of rounds of one call, and answers a checksum of the answers.
 use election::Answer;
 use returning::Sent;
-use table::Table;
 ghost use mathlib.Core.Path.{_≡_};
 ghost use Prim.Native.Nat.{_<_};
-ghost use Rattle.table.specs.Table.{WellFormed, ownerOf};
+ghost use Rattle.table.specs.Table.{ownerOf};
+ghost use Rattle.table.specs.Words.{tableIn, Valid};
 ghost use Rattle.meter.specs.Meter.{
   withAnswer,
   withSent,
@@ -56,9 +56,9 @@ fn next(k: usize, n: usize) -> usize
 }
 
 // A checksum with the election for tag 1 over the table that a loop leaves.
-fn close(sum: u64, t: Table) -> u64
-    requires { ⌜ WellFormed t ⌝ }
-    ensures { λ r. ⌜ r ≡ closed sum t ⌝ }
+fn close(sum: u64, t: &[u32]) -> u64
+    requires { ⌜ Valid (now t) ⌝ }
+    ensures { λ r. ⌜ r ≡ closed sum (tableIn (now (t .entry))) ⌝ }
 {
     let nobody = [0u32; 1];
     let answer = segment::elect(t, 1, &nobody);
@@ -66,9 +66,9 @@ fn close(sum: u64, t: Table) -> u64
 }
 
 // The table of an identifier after the announcements of the runs.
-fn loaded(esi: &[u8], runs: &[u8]) -> Table
-    ensures answer { λ r. ⌜ r ≡ loadedTable (now (esi .entry)) (now (runs .entry)) ⌝ }
-    ensures kept { λ r. ⌜ WellFormed r ⌝ }
+fn loaded(esi: &[u8], runs: &[u8]) -> [u32; 139]
+    ensures answer { λ r. ⌜ tableIn r ≡ loadedTable (now (esi .entry)) (now (runs .entry)) ⌝ }
+    ensures kept { λ r. ⌜ Valid r ⌝ }
 {
     let made = segment::fresh(esi);
     let mut t = made.table;
@@ -78,8 +78,7 @@ fn loaded(esi: &[u8], runs: &[u8]) -> Table
         let at = RUN * k;
         let mid = at + ROUTE;
         let end = at + RUN;
-        let change = segment::announce(t, &runs[at..mid], &runs[mid..end]);
-        t = change.table;
+        segment::announce(&mut t, &runs[at..mid], &runs[mid..end]);
         k += 1;
     }
     t
@@ -94,7 +93,7 @@ pub extern "C" fn meter_fill(esi: &[u8], runs: &[u8], rounds: u32) -> u64
     let mut i = 0;
     while i < rounds {
         let t = loaded(esi, runs);
-        sum = sum ^ (t.count as u64);
+        sum = sum ^ (table::count(&t) as u64);
         i += 1;
     }
     sum
@@ -117,13 +116,12 @@ pub extern "C" fn meter_announce(esi: &[u8], runs: &[u8], calls: &[u8], rounds: 
         let at = RUN * k;
         let mid = at + ROUTE;
         let end = at + RUN;
-        let change = segment::announce(t, &calls[at..mid], &calls[mid..end]);
-        sum = sum ^ (change.number as u64);
-        t = change.table;
+        let told = segment::announce(&mut t, &calls[at..mid], &calls[mid..end]);
+        sum = sum ^ (told.number as u64);
         k = next(k, n);
         i += 1;
     }
-    close(sum, t)
+    close(sum, &t)
 }
 
 // A round: the next address of the runs is withdrawn, and announced again. Where there is no whole run the answer is 0.
@@ -145,15 +143,13 @@ pub extern "C" fn meter_again(esi: &[u8], runs: &[u8], rounds: u32) -> u64
         let end = at + RUN;
         let route = &runs[at..mid];
         let address = octets::u32_of(route[21], route[22], route[23], route[24]);
-        let gone = segment::withdraw(t, address);
-        let rest = gone.table;
-        let back = segment::announce(rest, route, &runs[mid..end]);
-        sum = sum ^ (gone.number as u64) ^ (back.number as u64);
-        t = back.table;
+        let gone = segment::withdraw(&mut t, address);
+        let back = segment::announce(&mut t, route, &runs[mid..end]);
+        sum = sum ^ (gone as u64) ^ (back.number as u64);
         k = next(k, n);
         i += 1;
     }
-    close(sum, t)
+    close(sum, &t)
 }
 
 // A round: the election for the next tag, from 0 on.
@@ -165,7 +161,7 @@ pub extern "C" fn meter_elect(esi: &[u8], runs: &[u8], ready: &[u32], rounds: u3
     let mut sum = 0;
     let mut tag = 0;
     while tag < rounds {
-        let answer = segment::elect(t, tag, ready);
+        let answer = segment::elect(&t, tag, ready);
         sum = with_answer(sum, answer);
         tag += 1;
     }
@@ -187,7 +183,7 @@ pub extern "C" fn meter_returning(
     let mut sum = 0;
     let mut address = 0;
     while address < rounds {
-        let sent = segment::returning(t, address, algorithm, preference, true);
+        let sent = segment::returning(&t, address, algorithm, preference, true);
         sum = with_sent(sum, sent);
         address += 1;
     }
@@ -201,7 +197,7 @@ pub extern "C" fn meter_digest(esi: &[u8], rounds: u32) -> u64
 {
     let made = segment::fresh(esi);
     let t = made.table;
-    let own = t.esi;
+    let own = table::identifier(&t);
     let mut sum = 0;
     let mut tag = 0;
     while tag < rounds {

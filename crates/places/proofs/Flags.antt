@@ -6,8 +6,7 @@ use native.Mathlib.Omega.{arith}
 use mathlib.Core.Path.{_≡_, refl, ap, ap₂, sym, _∙_}
 use mathlib.Core.Bool.{Bool, true, false, cond}
 use mathlib.Core.List.{List, [], _∷_, _++_, map, List·Memᴰ, List·Memᴰ·head, List·Memᴰ·tail, List·Memᴰ·not-nil}
-use lib.ListN.{length, getD, set, replicate, length-append, length-map, List·getD-map, List·getD-eq-default}
-use lib.Seq.{set-append-seam}
+use lib.ListN.{length, getD, set, replicate, length-map, List·getD-map, List·getD-eq-default}
 use lib.Pow.{pow-pos, pow-mono, shr-shr}
 use lib.Bits.{bitOr, or-step, or-zero-r}
 use lib.Count.{ones}
@@ -118,18 +117,6 @@ module _ (s i : ℕ) where
 
 pub withPlace-set : (bs : List Bool) (i : ℕ) → i < length bs → length bs ≤ 64 → withPlace (setOf bs) i ≡ setOf (set bs i true)
 withPlace-set bs i h k = withPlace-in (setOf bs) i (omega arith) ∙ setOf-set bs i h
-
--- a flag more: a false one changes nothing, a true one is the next place
-pub setOf-last : (bs : List Bool) → setOf (bs ++ false ∷ []) ≡ setOf bs
-unfolding setOf
-setOf-last [] = refl
-setOf-last (b ∷ bs) = ap (λ (s : ℕ). cond b 1 0 + 2 * s) (setOf-last bs)
-
-pub withPlace-last : (bs : List Bool) → length bs < 64 → withPlace (setOf bs) (length bs) ≡ setOf (bs ++ true ∷ [])
-withPlace-last bs h =
-    ap (λ (s : ℕ). withPlace s (length bs)) (sym (setOf-last bs))
-    ∙ withPlace-set (bs ++ false ∷ []) (length bs) (simp length-append (omega arith)) (simp length-append (omega arith))
-    ∙ ap setOf (set-append-seam bs false [] true)
 
 same-flag : (b c : Bool) → _≡_ {A = ℕ} (cond b 1 0) (cond c 1 0) → b ≡ c
 same-flag false false e = refl

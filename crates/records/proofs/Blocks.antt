@@ -11,13 +11,12 @@ use lib.Dec.{ltb}
 use borrow.Author.Tests.{lt-ltb}
 use Rattle.octets.specs.Octets.{stored}
 use Rattle.octets.proofs.Laws.{stored-fits, stored-front, length-stored, front-next, front-all}
-use Rattle.table.specs.Table.{WellFormed}
 use Rattle.frames.specs.Frames.{Front, nothing, bad, cut, whole, front}
 use Rattle.frames.proofs.Laws.{Found}
-use Rattle.records.specs.declared.Bench.{Bench}
+use Rattle.records.specs.declared.Phase.{Phase}
 use Rattle.records.specs.declared.Step.{Step}
 use Rattle.records.specs.declared.Progress.{Progress}
-use Rattle.records.specs.Records.{refused, badLine, turn, isEnd, hasEnded, runFrom, endOf}
+use Rattle.records.specs.Records.{Bench, stateIn, refused, badLine, turn, isEnd, hasEnded, runFrom, endOf}
 use Rattle.records.specs.Steps.{Written, Stepped, isPart, stopped, Advanced, Ran, Stopped, kept}
 use Rattle.records.proofs.Laws.{run-ended, run-found, run-spoilt, end-ended, run-end-nothing, run-end-cut}
 use Rattle.records.proofs.Turns.{written-none}
@@ -74,32 +73,33 @@ module _ (b : Bench) (s : List ℕ) (n : ℕ) where
 -- ---- one record, or none
 
 module _ (b : Bench) (s : List ℕ) (i : ℕ) (d : List ℕ) (w : ℕ) (h : i ≤ length s) where
-  pub advanced-none : w ≤ length d → WellFormed (b .table) → stopped b (drop i s) (length d - w) ≡ true
-      → Advanced b s i d w (record { bench = b; used = i; wrote = w }) d
-  advanced-none l k q =
-      record { line = []; put = written-none d w l; used = h; forward = le-refl i; run = λ r. refl; still = λ z. q; kept = k }
+  pub advanced-none : (f : Phase) → w ≤ length d → stopped b (drop i s) (length d - w) ≡ true
+      → Advanced b s i d w (record { phase = f; used = i; wrote = w }) b d
+  advanced-none f l q =
+      record { line = []; put = written-none d w l; used = h; forward = le-refl i; run = λ r. refl; still = λ z. q }
 
-  pub advanced-bad : (x : Step) (e : List ℕ) → hasEnded b ≡ false → front (drop i s) ≡ bad → Stepped d w (refused (b .table)) x e
-      → Advanced b s i d w (record { bench = x .bench; used = length s; wrote = x .at }) e
+  pub advanced-bad : (x : Step) (v e : List ℕ) → hasEnded b ≡ false → front (drop i s) ≡ bad → Stepped d w (refused (b .table)) x v e
+      → Advanced b s i d w (record { phase = x .phase; used = length s; wrote = x .at }) (stateIn (x .phase) v) e
   unfolding isEnd
-  advanced-bad x e n f t =
-      let o : hasEnded (x .bench) ≡ true = ap hasEnded (t .next) in
+  advanced-bad x v e n f t =
+      let c = stateIn (x .phase) v in
+      let o : hasEnded c ≡ true = ap hasEnded (t .next) in
       record {
         line = badLine;
         put = t .put;
         used = le-refl (length s);
         forward = h;
-        run = λ r. run-spoilt b (drop i s) r n f ∙ sym (append-nil badLine) ∙ ap (badLine ++_) (sym (run-ended (x .bench) (drop (length s) s ++ r) o));
-        still = λ z. stopped-ended (x .bench) (drop (length s) s) (length d - x .at) o;
-        kept = t .kept;
+        run = λ r. run-spoilt b (drop i s) r n f ∙ sym (append-nil badLine) ∙ ap (badLine ++_) (sym (run-ended c (drop (length s) s ++ r) o));
+        still = λ z. stopped-ended c (drop (length s) s) (length d - x .at) o;
       }
 
-  pub advanced-whole : (k start len : ℕ) (x : Step) (e : List ℕ) → hasEnded b ≡ false → Found s i k start len
-      → Stepped d w (turn b k (take (start + len - start) (drop start s))) x e → Advanced b s i d w (record { bench = x .bench; used = start + len; wrote = x .at }) e
-  advanced-whole k start len x e n f t₀ =
+  pub advanced-whole : (k start len : ℕ) (x : Step) (v e : List ℕ) → hasEnded b ≡ false → Found s i k start len
+      → Stepped d w (turn b k (take (start + len - start) (drop start s))) x v e
+      → Advanced b s i d w (record { phase = x .phase; used = start + len; wrote = x .at }) (stateIn (x .phase) v) e
+  advanced-whole k start len x v e n f t₀ =
       let u = turn b k (take len (drop start s)) in
       let q : start + len - start ≡ len = omega arith in
-      let t : Stepped d w u x e = subst (λ (m : ℕ). Stepped d w (turn b k (take m (drop start s))) x e) q t₀ in
+      let t : Stepped d w u x v e = subst (λ (m : ℕ). Stepped d w (turn b k (take m (drop start s))) x v e) q t₀ in
       record {
         line = u .line;
         put = t .put;
@@ -107,34 +107,37 @@ module _ (b : Bench) (s : List ℕ) (i : ℕ) (d : List ℕ) (w : ℕ) (h : i �
         forward = omega (arith, f .begins);
         run = λ r. run-found b s r n f ∙ ap (λ (c : Bench). u .line ++ runFrom c (drop (start + len) s ++ r)) (sym (t .next));
         still = λ z. absurd (omega (arith, f .begins, z));
-        kept = t .kept;
       }
 
 -- ---- the records of a block
 
-pub ran-none : (b : Bench) (s d : List ℕ) → WellFormed (b .table) → Ran b s d (record { bench = b; used = 0; wrote = 0 }) d
-ran-none b s d k = record { used = omega arith; wrote = omega arith; run = λ r. refl; others = refl; kept = k }
+pub ran-none : (b : Bench) (s d : List ℕ) (f : Phase) → Ran b s d (record { phase = f; used = 0; wrote = 0 }) b d
+ran-none b s d f = record { used = omega arith; wrote = omega arith; run = λ r. refl; others = refl }
 
-pub ran-next : {b : Bench} {s d : List ℕ} {p : Progress} {e : List ℕ} {q : Progress} {f : List ℕ} → length e ≡ length d → Ran b s d p e
-    → Advanced (p .bench) s (p .used) e (p .wrote) q f → Ran b s d q f
-ran-next {b} {s} {d} {p} {e} {q} {f} l m a =
+pub ran-next : {b : Bench} {s d : List ℕ} {p : Progress} {b₁ : Bench} {e : List ℕ} {q : Progress} {b₂ : Bench} {f : List ℕ} → length e ≡ length d
+    → Ran b s d p b₁ e → Advanced b₁ s (p .used) e (p .wrote) q b₂ f → Ran b s d q b₂ f
+ran-next {b} {s} {d} {p} {b₁} {e} {q} {b₂} {f} l m a =
     let n = length (a .line) in
     record {
       used = a .used;
       wrote = omega (arith, a .put .fits, a .put .place, l);
       run = λ r. m .run r
           ∙ ap (take (p .wrote) e ++_) (a .run r)
-          ∙ sym (append-assoc (take (p .wrote) e) (a .line) (runFrom (q .bench) (drop (q .used) s ++ r)))
-          ∙ ap (λ (x : List ℕ). x ++ runFrom (q .bench) (drop (q .used) s ++ r)) (sym (written-upto (a .put)));
+          ∙ sym (append-assoc (take (p .wrote) e) (a .line) (runFrom b₂ (drop (q .used) s ++ r)))
+          ∙ ap (λ (x : List ℕ). x ++ runFrom b₂ (drop (q .used) s ++ r)) (sym (written-upto (a .put)));
       others = written-after (a .put)
           ∙ rw (a .put .place, ← drop-drop n (p .wrote) e, ← drop-drop n (p .wrote) d) (ap (drop n) (m .others));
-      kept = a .kept;
     }
 
 -- where the last step took no record, there was a reason
-pub ran-stopped : (d : List ℕ) {b : Bench} {s : List ℕ} {i w : ℕ} {e : List ℕ} {q : Progress} {f : List ℕ} → length e ≡ length d → Advanced b s i e w q f
-    → q .used ≡ i → Stopped s d q ≡ true
-ran-stopped d {b} {s} {i} {w} {e} {q} {f} l a h = sym (ap (λ (n : ℕ). stopped (q .bench) (drop (q .used) s) (n - q .wrote)) l) ∙ a .still (sym h)
+pub ran-stopped : (d : List ℕ) {b : Bench} {s : List ℕ} {i w : ℕ} {e : List ℕ} {q : Progress} {c : Bench} {f : List ℕ} → length e ≡ length d
+    → Advanced b s i e w q c f → q .used ≡ i → Stopped s d q c ≡ true
+ran-stopped d {b} {s} {i} {w} {e} {q} {c} {f} l a h = sym (ap (λ (n : ℕ). stopped c (drop (q .used) s) (n - q .wrote)) l) ∙ a .still (sym h)
+
+-- ---- words copied
+
+pub copied : (d s : List ℕ) (n : ℕ) → length s ≡ n → length d ≡ n → take n s ++ drop n d ≡ s
+copied d s n e l = front-all d s n e ∙ ap (s ++_) (drop-of-length-le d {i = n} (omega arith)) ∙ append-nil s
 
 -- ---- octets moved to the front
 
@@ -176,7 +179,7 @@ kept-within s u n {r} {e} q b = omega (arith, q, length-kept s u n, ap length b,
 -- ---- where the input ends
 
 -- what may still become a record prints what `endOf` says if nothing follows
-end-part : (b : Bench) (s : List ℕ) (f : Front) → hasEnded b ≡ false → front s ≡ f → isPart f ≡ true → runFrom b s ≡ endOf b s
+end-part : (b : Bench) (s : List ℕ) (f : Front) → hasEnded b ≡ false → front s ≡ f → isPart f ≡ true → runFrom b s ≡ endOf (b .phase) s
 unfolding isPart
 end-part b s nothing h e p = run-end-nothing b s e
 end-part b s bad h e p = absurd (false≢true p)
@@ -184,10 +187,10 @@ end-part b s cut h e p = run-end-cut b s h e
 end-part b s (whole k l r) h e p = absurd (false≢true p)
 
 -- where no record can be taken although there is room, the run prints what `endOf` says
-pub end-stopped : (b : Bench) (s : List ℕ) → stopped b s 40 ≡ true → runFrom b s ≡ endOf b s
+pub end-stopped : (b : Bench) (s : List ℕ) → stopped b s 40 ≡ true → runFrom b s ≡ endOf (b .phase) s
 unfolding stopped
 end-stopped b s = by-end (hasEnded b) refl
   where
-    by-end : (t : Bool) → hasEnded b ≡ t → (t || (ltb 40 40 || isPart (front s))) ≡ true → runFrom b s ≡ endOf b s
-    by-end true h p = run-ended b s h ∙ sym (end-ended b s h)
+    by-end : (t : Bool) → hasEnded b ≡ t → (t || (ltb 40 40 || isPart (front s))) ≡ true → runFrom b s ≡ endOf (b .phase) s
+    by-end true h p = run-ended b s h ∙ sym (end-ended (b .phase) s h)
     by-end false h p = end-part b s (front s) h refl p

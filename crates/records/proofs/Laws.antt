@@ -1,13 +1,11 @@
 -- Laws of `specs/Records.antt`: how long lines are, and the run by what stands at its front.
 -- Assumes nothing.
 use Prim.Native.Nat.{ℕ, zero, suc, _+_, _^_, _≤_, _<_}
-use native.Mathlib.Nat.{not-suc-le-zero}
 use native.Mathlib.Omega.{arith}
 use mathlib.Core.Path.{_≡_, refl, ap, _∙_, sym, subst}
 use mathlib.Core.Bool.{Bool, true, false, cond}
 use mathlib.Core.List.{List, [], _∷_, _++_}
 use lib.ListN.{length, take, drop, length-append}
-use lib.Dec.{eqb}
 use borrow.Author.Tests.{eq-eqb, ne-eqb, le-leb, lt-leb}
 use Rattle.election.specs.declared.Answer.{Answer}
 use Rattle.frames.specs.Frames.{Front, nothing, bad, cut, whole, front}
@@ -15,9 +13,9 @@ use Rattle.frames.proofs.Laws.{Found, cut-begun, nothing-empty, whole-record, w
 use Rattle.octets.proofs.Laws.{stored-front}
 use Rattle.lines.specs.Lines.{decimal, dotted, Put}
 use Rattle.lines.proofs.Laws.{put-made, put-place, put-all, length-decimal, length-decimal-octet, length-dotted}
-use Rattle.records.specs.declared.Bench.{Bench}
+use Rattle.records.specs.declared.Phase.{Phase}
 use Rattle.records.specs.Steps.{Written}
-use Rattle.records.specs.Records.{line, placeLine, hasPlace, readLine, badLine, electedLine, queryLine, turn, hasEnded, before, runFor, runFrom, endOf}
+use Rattle.records.specs.Records.{Bench, line, placeLine, hasPlace, readLine, badLine, electedLine, queryLine, turn, isEnd, hasEnded, before, runFor, runFrom, endOf}
 
 -- ---- lines
 
@@ -176,26 +174,27 @@ run-spoilt b s rest h e = run-bad b (s ++ rest) h (bad-append s rest e)
 
 -- ---- the end of the input
 
-pub end-ended : (b : Bench) (s : List ℕ) → hasEnded b ≡ true → endOf b s ≡ []
-unfolding endOf
-end-ended b s h = rw h
+module _ (f : Phase) (s : List ℕ) where
+  pub end-ended : isEnd f ≡ true → endOf f s ≡ []
+  unfolding endOf
+  end-ended h = rw h
 
-pub end-empty : (b : Bench) (s : List ℕ) → length s ≡ 0 → endOf b s ≡ []
-unfolding endOf
-end-empty b s h = rw (eq-eqb (length s) 0 h) (either (hasEnded b) [])
+  pub end-empty : length s ≡ 0 → endOf f s ≡ []
+  unfolding endOf
+  end-empty h = rw (eq-eqb (length s) 0 h) (either (isEnd f) [])
 
-pub end-left : (b : Bench) (s : List ℕ) → hasEnded b ≡ false → (length s ≡ 0 → ⊥) → endOf b s ≡ badLine
-unfolding endOf
-end-left b s h n = rw (h, ne-eqb (length s) 0 n)
+  pub end-left : isEnd f ≡ false → (length s ≡ 0 → ⊥) → endOf f s ≡ badLine
+  unfolding endOf
+  end-left h n = rw (h, ne-eqb (length s) 0 n)
 
 -- what is no whole record: the run's end is what `endOf` says
-pub run-end-nothing : (b : Bench) (s : List ℕ) → front s ≡ nothing → runFrom b s ≡ endOf b s
+pub run-end-nothing : (b : Bench) (s : List ℕ) → front s ≡ nothing → runFrom b s ≡ endOf (b .phase) s
 run-end-nothing b s e =
     let q = nothing-empty s e in
-    ap (runFrom b) q ∙ run-nothing b ∙ sym (end-empty b s (ap length q))
+    ap (runFrom b) q ∙ run-nothing b ∙ sym (end-empty (b .phase) s (ap length q))
 
-pub run-end-cut : (b : Bench) (s : List ℕ) → hasEnded b ≡ false → front s ≡ cut → runFrom b s ≡ endOf b s
-run-end-cut b s h e = run-cut b s h e ∙ sym (end-left b s h (λ z. let l = cut-begun s e .begun in omega arith))
+pub run-end-cut : (b : Bench) (s : List ℕ) → hasEnded b ≡ false → front s ≡ cut → runFrom b s ≡ endOf (b .phase) s
+run-end-cut b s h e = run-cut b s h e ∙ sym (end-left (b .phase) s h (λ z. let l = cut-begun s e .begun in omega arith))
 
 -- no octets put at the front of a buffer
 pub put-none : (d : List ℕ) → Put d 0 [] 0 d

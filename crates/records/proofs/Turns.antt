@@ -3,26 +3,22 @@ use Prim.Native.Nat.{ℕ, _-_, _%_, _≤_, _<_}
 use native.Mathlib.Nat.{add-zero}
 use native.Mathlib.Omega.{arith}
 use mathlib.Core.Path.{_≡_, refl, ap, _∙_, sym, subst}
-use mathlib.Core.Bool.{cond}
 use mathlib.Core.List.{List, [], _∷_, append-nil}
 use lib.ListN.{replicate, length, getD, take, drop, length-drop, take-append-drop}
 use lib.Seq.{take-all}
-use lib.Dec.{eqb}
 use borrow.Author.Tests.{eq-eqb, ne-eqb, le-leb, lt-leb}
 use Rattle.octets.specs.Octets.{numberOf}
 use Rattle.octets.proofs.Laws.{stored-fits}
 use Rattle.esi.specs.declared.TextRead.{TextRead}
 use Rattle.esi.specs.Text.{readText}
-use Rattle.table.specs.declared.Table.{Table}
-use Rattle.table.specs.declared.Change.{Change}
-use Rattle.table.specs.Table.{live, WellFormed, freshTable, announced, withdrawn}
+use Rattle.table.specs.Table.{Table, live, freshTable, announced, withdrawn}
+use Rattle.table.specs.Words.{tableIn, Valid, Told}
 use Rattle.election.specs.declared.Answer.{Answer}
 use Rattle.election.specs.Election.{electOf}
 use Rattle.records.specs.declared.Phase.{Phase}
 use Rattle.records.specs.declared.Phase.the-variants.{Start, Running, Ended}
-use Rattle.records.specs.declared.Bench.{Bench}
 use Rattle.records.specs.declared.Step.{Step}
-use Rattle.records.specs.Records.{Turn, line, readLine, running, ended, refused, badLine, queryLine, textTurn, announceTurn, withdrawTurn, queryTurn, laterTurn, wordsIn, turnIn, turn, first, runFrom, runOf}
+use Rattle.records.specs.Records.{Bench, Turn, line, readLine, stateIn, running, ended, refused, queryLine, textTurn, announceTurn, withdrawTurn, queryTurn, laterTurn, wordsIn, turnIn, first, runFrom, runOf}
 use Rattle.records.specs.Steps.{Written, Stepped}
 use Rattle.records.proofs.Laws.{written-as}
 
@@ -47,39 +43,46 @@ pub take-of-all : (n : ℕ) (l : List ℕ) → length l ≡ n → take n l ≡ l
 take-of-all n l h = take-all n l (omega arith)
 
 module _ {d : List ℕ} {at n : ℕ} {e : List ℕ} where
-  pub stepped-announce : (t : Table) (p : List ℕ) (x : Change) → x ≡ announced t (take 25 p) (take (length p - 25) (drop 25 p)) → WellFormed (x .table)
-      → Written d at (readLine 97 (x .number) (x .place)) n e → Stepped d at (announceTurn t p) (record { bench = running (x .table); at = n }) e
+  pub stepped-announce : (t : Table) (p : List ℕ) {m l : ℕ} {v : List ℕ} → Told (announced t (take 25 p) (take (length p - 25) (drop 25 p))) m l v → Valid v
+      → Written d at (readLine 97 m l) n e → Stepped d at (announceTurn t p) (record { phase = Running; at = n }) v e
   unfolding announceTurn
-  stepped-announce t p x q k w =
-      let a : x ≡ announced t (take 25 p) (drop 25 p) = q ∙ ap (announced t (take 25 p)) (take-of-all (length p - 25) (drop 25 p) (length-drop 25 p)) in
-      record { put = written-as w (ap (λ (y : Change). readLine 97 (y .number) (y .place)) a); next = ap (λ (y : Change). running (y .table)) a; kept = k }
+  stepped-announce t p {m} {l} {v} told k w =
+      let a = take-of-all (length p - 25) (drop 25 p) (length-drop 25 p) in
+      let q : Told (announced t (take 25 p) (drop 25 p)) m l v = subst (λ (z : List ℕ). Told (announced t (take 25 p) z) m l v) a told in
+      record { put = written-as w (rw (q .0, q .1)); next = ap running (q .2); kept = k }
 
-  pub stepped-withdraw : (t : Table) (p : List ℕ) (x : Change) → x ≡ withdrawn t (numberOf p) → WellFormed (x .table)
-      → Written d at (line 119 (x .number)) n e → Stepped d at (withdrawTurn t p) (record { bench = running (x .table); at = n }) e
+  pub stepped-withdraw : (t : Table) (p : List ℕ) {a m : ℕ} {v : List ℕ} → a ≡ numberOf p → Told (withdrawn t a) m 0 v → Valid v
+      → Written d at (line 119 m) n e → Stepped d at (withdrawTurn t p) (record { phase = Running; at = n }) v e
   unfolding withdrawTurn
-  stepped-withdraw t p x q k w =
-      record { put = written-as w (ap (λ (y : Change). line 119 (y .number)) q); next = ap (λ (y : Change). running (y .table)) q; kept = k }
+  stepped-withdraw t p {a} {m} {v} g told k w =
+      let q : Told (withdrawn t (numberOf p)) m 0 v = subst (λ (z : ℕ). Told (withdrawn t z) m 0 v) g told in
+      record { put = written-as w (ap (line 119) (q .0)); next = ap running (q .2); kept = k }
 
-  module _ (t : Table) (p : List ℕ) (x : TextRead) (q : x ≡ readText p) (w : Written d at (readLine 112 (x .number) (x .place)) n e) where
-    pub stepped-end : WellFormed t → (x .number ≡ 0 → ⊥) → Stepped d at (textTurn t p) (record { bench = ended t; at = n }) e
+  module _ (p : List ℕ) (x : TextRead) (q : x ≡ readText p) (w : Written d at (readLine 112 (x .number) (x .place)) n e) where
+    pub stepped-end : (v : List ℕ) → Valid v → (x .number ≡ 0 → ⊥) → Stepped d at (textTurn (tableIn v) p) (record { phase = Ended; at = n }) v e
     unfolding textTurn
-    stepped-end k h =
+    stepped-end v k h =
         let m = ap (λ (y : TextRead). y .number) q in
         record { put = written-as w (ap (λ (z : TextRead). readLine 112 (z .number) (z .place)) q); next = rw (ne-eqb (readText p .number) 0 (λ z. h (m ∙ z))); kept = k }
 
-    pub stepped-begin : (y : Change) → x .number ≡ 0 → y ≡ freshTable (x .esi) → WellFormed (y .table)
-        → Stepped d at (textTurn t p) (record { bench = running (y .table); at = n }) e
+    -- the words of the fresh table are copied
+    pub stepped-begin : (t : Table) {m : ℕ} {y v : List ℕ} → x .number ≡ 0 → Told (freshTable (x .esi)) m 0 y → Valid y → v ≡ y
+        → Stepped d at (textTurn t p) (record { phase = Running; at = n }) v e
     unfolding textTurn
-    stepped-begin y h f k =
-        let m = ap (λ (z : TextRead). z .number) q in
+    stepped-begin t {m} {y} {v} h f k c =
+        let o = ap (λ (z : TextRead). z .number) q in
         let i = ap (λ (z : TextRead). z .esi) q in
-        record { put = written-as w (ap (λ (z : TextRead). readLine 112 (z .number) (z .place)) q); next = rw (eq-eqb (readText p .number) 0 (sym m ∙ h), ← i, ← f); kept = k }
+        record {
+          put = written-as w (ap (λ (z : TextRead). readLine 112 (z .number) (z .place)) q);
+          next = rw (eq-eqb (readText p .number) 0 (sym o ∙ h), ← i, ← (f .2)) (ap (stateIn Running) c);
+          kept = subst Valid (sym c) k;
+        }
 
-  pub stepped-query : (t : Table) (p : List ℕ) (x : Answer) (tag : ℕ) (ready : List ℕ) → tag ≡ numberOf (take 4 p) → ready ≡ wordsIn (drop 4 p)
-      → x ≡ electOf (t .esi) (live t) tag ready → WellFormed t → Written d at (queryLine x) n e
-      → Stepped d at (queryTurn t p) (record { bench = running t; at = n }) e
+  pub stepped-query : (v p : List ℕ) (x : Answer) (tag : ℕ) (ready : List ℕ) → tag ≡ numberOf (take 4 p) → ready ≡ wordsIn (drop 4 p)
+      → x ≡ electOf (tableIn v .esi) (live (tableIn v)) tag ready → Valid v → Written d at (queryLine x) n e
+      → Stepped d at (queryTurn (tableIn v) p) (record { phase = Running; at = n }) v e
   unfolding queryTurn
-  stepped-query t p x tag ready g l q k w =
+  stepped-query v p x tag ready g l q k w =
       record { put = written-as w (ap queryLine (q ∙ rw (g, l))); next = refl; kept = k }
 
 -- ---- which turn a later record's is
@@ -119,13 +122,17 @@ module _ (t : Table) (k : ℕ) (p : List ℕ) where
     later-query-odd h m = rw (ne-eqb k 1 (λ z. omega arith), ne-eqb k 2 (λ z. omega arith), eq-eqb k 3 e, le-leb 4 (length p) h, ne-eqb (length p % 4) 0 m)
 
 -- the same step, said of another turn
-pub stepped-as : {d : List ℕ} {at : ℕ} {u v : Turn} {r : Step} {e : List ℕ} → Stepped d at u r e → u ≡ v → Stepped d at v r e
-stepped-as {d} {at} {u} {v} {r} {e} s q = subst (λ (x : Turn). Stepped d at x r e) q s
+pub stepped-as : {d : List ℕ} {at : ℕ} {u v : Turn} {r : Step} {w e : List ℕ} → Stepped d at u r w e → u ≡ v → Stepped d at v r w e
+stepped-as {d} {at} {u} {v} {r} {w} {e} s q = subst (λ (x : Turn). Stepped d at x r w e) q s
+
+-- the state of a phase and a table
+abbrev inPhase : Phase → Table → Bench
+inPhase f t = record { phase = f; table = t }
 
 -- the state at the start
-pub started : (x : Change) → x ≡ freshTable (replicate 10 0) → _≡_ {A = Bench} (record { phase = Start; table = x .table }) first
+pub started : (y : List ℕ) {m : ℕ} → Told (freshTable (replicate 10 0)) m 0 y → stateIn Start y ≡ first
 unfolding first
-started x e = rw e
+started y {m} f = ap (inPhase Start) (f .2)
 
 pub run-first : {b : Bench} → b ≡ first → (s : List ℕ) → runFrom b s ≡ runOf s
 unfolding runOf
@@ -138,26 +145,22 @@ pub written-none : (d : List ℕ) (at : ℕ) → at ≤ length d → Written d a
 written-none d at h =
     record { fits = omega arith; place = omega arith; buffer = sym (stored-fits d at [] (omega arith) ∙ rw (add-zero, append-nil) (take-append-drop at d)) }
 
--- the state of a phase and a table
-abbrev inPhase : Table → Phase → Bench
-inPhase t f = record { phase = f; table = t }
-
-module _ (b : Bench) (k : ℕ) (p : List ℕ) where
-  pub turn-begin : b .phase ≡ Start → k ≡ 0 → textTurn (b .table) p ≡ turn b k p
+module _ (h : Phase) (t : Table) (k : ℕ) (p : List ℕ) where
+  pub turn-begin : h ≡ Start → k ≡ 0 → textTurn t p ≡ turnIn h t k p
   unfolding turnIn
-  turn-begin h e = rw (h, eq-eqb k 0 e)
+  turn-begin q e = rw (q, eq-eqb k 0 e)
 
-  pub turn-none : b .phase ≡ Start → (k ≡ 0 → ⊥) → refused (b .table) ≡ turn b k p
+  pub turn-none : h ≡ Start → (k ≡ 0 → ⊥) → refused t ≡ turnIn h t k p
   unfolding turnIn
-  turn-none h e = rw (h, ne-eqb k 0 e)
+  turn-none q e = rw (q, ne-eqb k 0 e)
 
-  pub turn-later : b .phase ≡ Running → laterTurn (b .table) k p ≡ turn b k p
+  pub turn-later : h ≡ Running → laterTurn t k p ≡ turnIn h t k p
   unfolding turnIn
-  turn-later h = rw h
+  turn-later q = rw q
 
-  pub stepped-ended : (d : List ℕ) (at : ℕ) → b .phase ≡ Ended → at ≤ length d → WellFormed (b .table)
-      → Stepped d at (turn b k p) (record { bench = b; at = at }) d
-  unfolding turnIn
-  stepped-ended d at h l w =
-      let q : _≡_ {A = Turn} (record { line = []; next = ended (b .table) }) (turn b k p) = rw h in
-      stepped-as (record { put = written-none d at l; next = ap (inPhase (b .table)) h; kept = w }) q
+pub stepped-ended : (h : Phase) (v : List ℕ) (k : ℕ) (p d : List ℕ) (at : ℕ) → h ≡ Ended → at ≤ length d → Valid v
+    → Stepped d at (turnIn h (tableIn v) k p) (record { phase = h; at = at }) v d
+unfolding turnIn
+stepped-ended h v k p d at e l w =
+    let q : _≡_ {A = Turn} (record { line = []; next = ended (tableIn v) }) (turnIn h (tableIn v) k p) = rw e in
+    stepped-as (record { put = written-none d at l; next = ap (λ (f : Phase). stateIn f v) e; kept = w }) q

@@ -1,5 +1,6 @@
 -- The bench program's run (document 01, "The bench program"): octets in, octets out.
 -- Letters and signs are octets: `a` 97, `p` 112, `q` 113, `w` 119, `x` 120, space 32, newline 10.
+--   Bench              == the state of a run: its phase and its table
 --   Turn               == what one record does: the line that is printed, and the state after it
 --   line c n           == the line of the letter c and the number n
 --   placeLine c n p    == the line of the letter c, the number n and the place p
@@ -8,6 +9,7 @@
 --   badLine            == the line `x 16`
 --   electedLine a n    == the line of an accepted query
 --   queryLine r        == the line of the election's answer r
+--   stateIn h w        == the state of the phase h with the table that lies in the words w
 --   running t          == the state in which records are carried out upon the table t
 --   ended t            == the state in which nothing more is looked at
 --   refused t          == a bad record's turn
@@ -26,7 +28,7 @@
 --   runFrom b s        == the run from the state b on the octets s: all that is printed
 --   first              == the state at the start
 --   runOf s            == the whole output for the input s
---   endOf b s          == what is printed where the input ends with the octets s, which are no whole record
+--   endOf h s          == what is printed in the phase h where the input ends with the octets s, which are no whole record
 use Prim.Native.Nat.{ℕ, zero, suc, _%_}
 use mathlib.Core.Bool.{Bool, true, false, cond, _&&_, _||_}
 use mathlib.Core.List.{List, [], _∷_, _++_}
@@ -34,15 +36,18 @@ use lib.ListN.{length, take, drop, replicate}
 use lib.Dec.{leb, eqb}
 use Rattle.octets.specs.Octets.{numberOf}
 use Rattle.esi.specs.Text.{readText}
-use Rattle.table.specs.declared.Table.{Table}
-use Rattle.table.specs.Table.{live, freshTable, announced, withdrawn}
+use Rattle.table.specs.Table.{Table, live, freshTable, announced, withdrawn}
+use Rattle.table.specs.Words.{tableIn}
 use Rattle.election.specs.declared.Answer.{Answer}
 use Rattle.election.specs.Election.{electOf}
 use Rattle.frames.specs.Frames.{Front, nothing, bad, cut, whole, front}
 use Rattle.lines.specs.Lines.{decimal, dotted}
 use Rattle.records.specs.declared.Phase.{Phase}
 use Rattle.records.specs.declared.Phase.the-variants.{Start, Running, Ended}
-use Rattle.records.specs.declared.Bench.{Bench}
+
+pub record Bench : Type 0 where
+  pub phase : Phase
+  pub table : Table
 
 pub record Turn : Type 0 where
   pub line : List ℕ
@@ -72,6 +77,9 @@ unfoldable pub queryLine : Answer → List ℕ
 queryLine r = cond (eqb (r .number) 0) (electedLine (r .address) (r .n)) (line 113 (r .number))
 
 -- STATES
+abbrev pub stateIn : Phase → List ℕ → Bench
+stateIn h w = record { phase = h; table = tableIn w }
+
 abbrev pub running : Table → Bench
 running t = record { phase = Running; table = t }
 
@@ -160,5 +168,5 @@ first = record { phase = Start; table = freshTable (replicate 10 0) .table }
 unfoldable pub runOf : List ℕ → List ℕ
 runOf s = runFrom first s
 
-unfoldable pub endOf : Bench → List ℕ → List ℕ
-endOf b s = cond (hasEnded b) [] (cond (eqb (length s) 0) [] badLine)
+unfoldable pub endOf : Phase → List ℕ → List ℕ
+endOf h s = cond (isEnd h) [] (cond (eqb (length s) 0) [] badLine)

@@ -1,15 +1,15 @@
-// The bench program's run (document 01, "The bench program"): a whole record is carried out upon a table, and its line is put into a lent
+// The bench program's run (document 01, "The bench program"): a whole record is carried out upon a lent table, and its line is put into a lent
 // buffer. A line has at most 40 octets. Blocks of input are taken record by record; reading and writing them is the program's.
 use election::Answer;
 use frames::Frame;
-use table::Table;
 ghost use mathlib.Core.Path.{_≡_};
 ghost use mathlib.Core.Bool.{true, false};
 ghost use Prim.Native.Nat.{ℕ, _+_, _≤_, _/_, min};
 ghost use mathlib.Core.List.{List};
 ghost use lib.ListN.{length, take};
 ghost use Rattle.octets.specs.Octets.{stored};
-ghost use Rattle.table.specs.Table.{WellFormed};
+ghost use Rattle.table.specs.Table.{Table};
+ghost use Rattle.table.specs.Words.{tableIn, Valid};
 ghost use Rattle.lines.specs.Lines.{Put};
 ghost use Rattle.records.specs.Records.{
   line,
@@ -26,7 +26,8 @@ ghost use Rattle.records.specs.Records.{
   queryTurn,
   laterTurn,
   turn,
-  hasEnded,
+  isEnd,
+  stateIn,
   first,
   endOf,
   runFrom,
@@ -41,21 +42,21 @@ pub enum Phase {
     Ended,
 }
 
-// The state of a run.
-pub struct Bench {
+// The state in which a run starts: the phase, and the words of the table that the run is then lent.
+pub struct Begun {
     pub phase: Phase,
-    pub table: Table,
+    pub table: [u32; 139],
 }
 
-// The state after a record, and the place after its line.
+// The phase after a record, and the place after its line.
 pub struct Step {
-    pub bench: Bench,
+    pub phase: Phase,
     pub at: usize,
 }
 
-// How far a block of input was taken: the state, how many octets of input are used, and how many octets of output are made.
+// How far a block of input was taken: the phase, how many octets of input are used, and how many octets of output are made.
 pub struct Progress {
-    pub bench: Bench,
+    pub phase: Phase,
     pub used: usize,
     pub wrote: usize,
 }
@@ -139,25 +140,34 @@ fn put_answer(out: &mut [u8], at: usize, r: Answer) -> usize
     put_elected(out, at, address, n)
 }
 
-// A bad record: its line is put, and the run ends.
-fn refuse(t: Table, out: &mut [u8], at: usize) -> Step
-    requires { ⌜ (at + 40 ≤ length (now out)) × WellFormed t ⌝ }
-    ensures { λ r. ⌜ Stepped (now (out .entry)) at (refused t) r (now (out .exit)) ⌝ }
+// A bad record: its line is put, and the run ends. The table stays as it is, whatever its words are.
+fn refuse(out: &mut [u8], at: usize) -> Step
+    requires { ⌜ at + 40 ≤ length (now out) ⌝ }
+    ensures { λ r. ⌜ ((w : List ℕ) → Valid w → Stepped (now (out .entry)) at (refused (tableIn w)) r w (now (out .exit))) ⌝ }
 {
     let end = lines::put_run(out, at, b"x 16\n");
     Step {
-        bench: Bench {
-            phase: Phase::Ended,
-            table: t,
-        },
+        phase: Phase::Ended,
         at: end,
     }
 }
 
+// Copies words, as many as there are.
+fn copy_words(t: &mut [u32], from: &[u32])
+    requires { ⌜ length (now t) ≡ length (now from) ⌝ }
+    ensures { λ _. ⌜ now (t .exit) ≡ now (from .entry) ⌝ }
+{
+    let mut i = 0;
+    while i < t.len() {
+        t[i] = from[i];
+        i += 1;
+    }
+}
+
 // The first record: a text that names the segment.
-fn begin(t: Table, text: &[u8], out: &mut [u8], at: usize) -> Step
-    requires { ⌜ (at + 40 ≤ length (now out)) × WellFormed t ⌝ }
-    ensures { λ r. ⌜ Stepped (now (out .entry)) at (textTurn t (now (text .entry))) r (now (out .exit)) ⌝ }
+fn begin(t: &mut [u32], text: &[u8], out: &mut [u8], at: usize) -> Step
+    requires { ⌜ (at + 40 ≤ length (now out)) × Valid (now t) ⌝ }
+    ensures { λ r. ⌜ Stepped (now (out .entry)) at (textTurn (tableIn (now (t .entry))) (now (text .entry))) r (now (t .exit)) (now (out .exit)) ⌝ }
 {
     let read = esi::read_text(text);
     let number = read.number;
@@ -165,59 +175,45 @@ fn begin(t: Table, text: &[u8], out: &mut [u8], at: usize) -> Step
     let end = put_read(out, at, b'p', number, place);
     if number != 0 {
         return Step {
-            bench: Bench {
-                phase: Phase::Ended,
-                table: t,
-            },
+            phase: Phase::Ended,
             at: end,
         };
     }
     let esi = read.esi;
     let made = table::fresh(&esi);
-    let u = made.table;
+    let words = made.table;
+    copy_words(t, &words);
     Step {
-        bench: Bench {
-            phase: Phase::Running,
-            table: u,
-        },
+        phase: Phase::Running,
         at: end,
     }
 }
 
 // An announcement: 25 route octets, then communities.
-fn announce(t: Table, payload: &[u8], out: &mut [u8], at: usize) -> Step
-    requires { ⌜ (at + 40 ≤ length (now out)) × (25 ≤ length (now payload)) × WellFormed t ⌝ }
-    ensures { λ r. ⌜ Stepped (now (out .entry)) at (announceTurn t (now (payload .entry))) r (now (out .exit)) ⌝ }
+fn announce(t: &mut [u32], payload: &[u8], out: &mut [u8], at: usize) -> Step
+    requires { ⌜ (at + 40 ≤ length (now out)) × (25 ≤ length (now payload)) × Valid (now t) ⌝ }
+    ensures { λ r. ⌜ Stepped (now (out .entry)) at (announceTurn (tableIn (now (t .entry))) (now (payload .entry))) r (now (t .exit)) (now (out .exit)) ⌝ }
 {
-    let change = table::announce(t, &payload[..25], &payload[25..]);
-    let number = change.number;
-    let place = change.place;
+    let verdict = table::announce(t, &payload[..25], &payload[25..]);
+    let number = verdict.number;
+    let place = verdict.place;
     let end = put_read(out, at, b'a', number, place);
-    let u = change.table;
     Step {
-        bench: Bench {
-            phase: Phase::Running,
-            table: u,
-        },
+        phase: Phase::Running,
         at: end,
     }
 }
 
 // A withdrawal of an address.
-fn withdraw(t: Table, payload: &[u8], out: &mut [u8], at: usize) -> Step
-    requires { ⌜ (at + 40 ≤ length (now out)) × (length (now payload) ≡ 4) × WellFormed t ⌝ }
-    ensures { λ r. ⌜ Stepped (now (out .entry)) at (withdrawTurn t (now (payload .entry))) r (now (out .exit)) ⌝ }
+fn withdraw(t: &mut [u32], payload: &[u8], out: &mut [u8], at: usize) -> Step
+    requires { ⌜ (at + 40 ≤ length (now out)) × (length (now payload) ≡ 4) × Valid (now t) ⌝ }
+    ensures { λ r. ⌜ Stepped (now (out .entry)) at (withdrawTurn (tableIn (now (t .entry))) (now (payload .entry))) r (now (t .exit)) (now (out .exit)) ⌝ }
 {
     let address = octets::u32_of(payload[0], payload[1], payload[2], payload[3]);
-    let change = table::withdraw(t, address);
-    let number = change.number;
+    let number = table::withdraw(t, address);
     let end = put_line(out, at, b'w', number);
-    let u = change.table;
     Step {
-        bench: Bench {
-            phase: Phase::Running,
-            table: u,
-        },
+        phase: Phase::Running,
         at: end,
     }
 }
@@ -239,10 +235,9 @@ fn addresses_in(s: &[u8]) -> [u32; 64]
 }
 
 // Whether a run has ended: nothing more is looked at.
-pub fn ended(b: Bench) -> bool
-    ensures { λ r. ⌜ r ≡ hasEnded b ⌝ }
+pub fn ended(phase: Phase) -> bool
+    ensures { λ r. ⌜ r ≡ isEnd phase ⌝ }
 {
-    let phase = b.phase;
     match phase {
         Phase::Start => false,
         Phase::Running => false,
@@ -251,28 +246,28 @@ pub fn ended(b: Bench) -> bool
 }
 
 // The state in which a run starts: from it, the run on an input is the whole output for that input.
-pub fn start() -> Bench
-    ensures answer { λ r. ⌜ r ≡ first ⌝ }
-    ensures run { λ r. ⌜ ((s : List ℕ) → runFrom r s ≡ runOf s) ⌝ }
-    ensures kept { λ r. ⌜ WellFormed (r .table) ⌝ }
+pub fn start() -> Begun
+    ensures answer { λ r. ⌜ stateIn (r .phase) (r .table) ≡ first ⌝ }
+    ensures run { λ r. ⌜ ((s : List ℕ) → runFrom (stateIn (r .phase) (r .table)) s ≡ runOf s) ⌝ }
+    ensures kept { λ r. ⌜ Valid (r .table) ⌝ }
 {
     let zeros = [0u8; 10];
     let made = table::fresh(&zeros);
-    let t = made.table;
-    Bench {
+    let words = made.table;
+    Begun {
         phase: Phase::Start,
-        table: t,
+        table: words,
     }
 }
 
 // Puts what is printed where the input ends with the octets `rest`, which are no whole record: `x 16` if there are any and the run has not
 // ended. Answers how many octets that is; where they do not fit, the buffer stays as it is and the answer is 0. Where `process` had to stop with room
-// left, this is what the run on those octets prints.
-pub fn finish(b: Bench, rest: &[u8], out: &mut [u8]) -> usize
-    ensures answer { λ r. ⌜ Put (now (out .entry)) 0 (endOf b (now (rest .entry))) r (now (out .exit)) ⌝ }
-    ensures run { λ r. ⌜ (stopped b (now (rest .entry)) 40 ≡ true → runFrom b (now (rest .entry)) ≡ endOf b (now (rest .entry))) ⌝ }
+// left, this is what the run on those octets prints, whatever its table.
+pub fn finish(phase: Phase, rest: &[u8], out: &mut [u8]) -> usize
+    ensures answer { λ r. ⌜ Put (now (out .entry)) 0 (endOf phase (now (rest .entry))) r (now (out .exit)) ⌝ }
+    ensures run { λ _. ⌜ ((t : Table) → stopped (record { phase = phase; table = t }) (now (rest .entry)) 40 ≡ true → runFrom (record { phase = phase; table = t }) (now (rest .entry)) ≡ endOf phase (now (rest .entry))) ⌝ }
 {
-    if ended(b) {
+    if ended(phase) {
         return 0;
     }
     if rest.len() == 0 {
@@ -282,9 +277,9 @@ pub fn finish(b: Bench, rest: &[u8], out: &mut [u8]) -> usize
 }
 
 // A query: the tag, then the ready addresses.
-fn query(t: Table, payload: &[u8], out: &mut [u8], at: usize) -> Step
-    requires { ⌜ (at + 40 ≤ length (now out)) × (4 ≤ length (now payload)) × (length (now payload) ≤ 255) × WellFormed t ⌝ }
-    ensures { λ r. ⌜ Stepped (now (out .entry)) at (queryTurn t (now (payload .entry))) r (now (out .exit)) ⌝ }
+fn query(t: &[u32], payload: &[u8], out: &mut [u8], at: usize) -> Step
+    requires { ⌜ (at + 40 ≤ length (now out)) × (4 ≤ length (now payload)) × (length (now payload) ≤ 255) × Valid (now t) ⌝ }
+    ensures { λ r. ⌜ Stepped (now (out .entry)) at (queryTurn (tableIn (now (t .entry))) (now (payload .entry))) r (now (t .entry)) (now (out .exit)) ⌝ }
 {
     let tag = octets::u32_of(payload[0], payload[1], payload[2], payload[3]);
     let rest = &payload[4..];
@@ -293,98 +288,99 @@ fn query(t: Table, payload: &[u8], out: &mut [u8], at: usize) -> Step
     let answer = election::elect(t, tag, &ready[..n]);
     let end = put_answer(out, at, answer);
     Step {
-        bench: Bench {
-            phase: Phase::Running,
-            table: t,
-        },
+        phase: Phase::Running,
         at: end,
     }
 }
 
 // A record after the first: judged, and carried out.
-fn later(t: Table, kind: u8, payload: &[u8], out: &mut [u8], at: usize) -> Step
-    requires { ⌜ (at + 40 ≤ length (now out)) × (length (now payload) ≤ 255) × WellFormed t ⌝ }
-    ensures { λ r. ⌜ Stepped (now (out .entry)) at (laterTurn t kind (now (payload .entry))) r (now (out .exit)) ⌝ }
+fn later(t: &mut [u32], kind: u8, payload: &[u8], out: &mut [u8], at: usize) -> Step
+    requires { ⌜ (at + 40 ≤ length (now out)) × (length (now payload) ≤ 255) × Valid (now t) ⌝ }
+    ensures { λ r. ⌜ Stepped (now (out .entry)) at (laterTurn (tableIn (now (t .entry))) kind (now (payload .entry))) r (now (t .exit)) (now (out .exit)) ⌝ }
 {
     let n = payload.len();
     if kind == 1 {
         if n < 25 {
-            return refuse(t, out, at);
+            return refuse(out, at);
         }
         return announce(t, payload, out, at);
     }
     if kind == 2 {
         if n != 4 {
-            return refuse(t, out, at);
+            return refuse(out, at);
         }
         return withdraw(t, payload, out, at);
     }
     if kind != 3 {
-        return refuse(t, out, at);
+        return refuse(out, at);
     }
     if n < 4 {
-        return refuse(t, out, at);
+        return refuse(out, at);
     }
     if n % 4 != 0 {
-        return refuse(t, out, at);
+        return refuse(out, at);
     }
     query(t, payload, out, at)
 }
 
 // One whole record, in any state.
-fn carry_out(b: Bench, kind: u8, payload: &[u8], out: &mut [u8], at: usize) -> Step
-    requires { ⌜ (at + 40 ≤ length (now out)) × (length (now payload) ≤ 255) × WellFormed (b .table) ⌝ }
-    ensures { λ r. ⌜ Stepped (now (out .entry)) at (turn b kind (now (payload .entry))) r (now (out .exit)) ⌝ }
+fn carry_out(
+    t: &mut [u32],
+    phase: Phase,
+    kind: u8,
+    payload: &[u8],
+    out: &mut [u8],
+    at: usize,
+) -> Step
+    requires { ⌜ (at + 40 ≤ length (now out)) × (length (now payload) ≤ 255) × Valid (now t) ⌝ }
+    ensures { λ r. ⌜ Stepped (now (out .entry)) at (turn (stateIn phase (now (t .entry))) kind (now (payload .entry))) r (now (t .exit)) (now (out .exit)) ⌝ }
 {
-    let t = b.table;
-    let phase = b.phase;
     match phase {
         Phase::Start => {
             if kind != 0 {
-                return refuse(t, out, at);
+                return refuse(out, at);
             }
             begin(t, payload, out, at)
         }
         Phase::Running => later(t, kind, payload, out, at),
-        Phase::Ended => Step { bench: b, at: at },
+        Phase::Ended => Step { phase, at },
     }
 }
 
 // One record at place `used` of the input, or none, where the octets from there on hold no whole record.
-fn take_record(b: Bench, input: &[u8], used: usize, out: &mut [u8], wrote: usize) -> Progress
-    requires { ⌜ (used ≤ length (now input)) × (wrote + 40 ≤ length (now out)) × (hasEnded b ≡ false) × WellFormed (b .table) ⌝ }
-    ensures { λ r. ⌜ Advanced b (now (input .entry)) used (now (out .entry)) wrote r (now (out .exit)) ⌝ }
+fn take_record(
+    t: &mut [u32],
+    phase: Phase,
+    input: &[u8],
+    used: usize,
+    out: &mut [u8],
+    wrote: usize,
+) -> Progress
+    requires { ⌜ (used ≤ length (now input)) × (wrote + 40 ≤ length (now out)) × (isEnd phase ≡ false) × Valid (now t) ⌝ }
+    ensures run { λ r. ⌜ Advanced (stateIn phase (now (t .entry))) (now (input .entry)) used (now (out .entry)) wrote r (stateIn (r .phase) (now (t .exit))) (now (out .exit)) ⌝ }
+    ensures kept { λ _. ⌜ Valid (now (t .exit)) ⌝ }
 {
     let frame = frames::frame_at(input, used);
     match frame {
-        Frame::Nothing => Progress {
-            bench: b,
-            used,
-            wrote,
-        },
-        Frame::Cut => Progress {
-            bench: b,
-            used,
-            wrote,
-        },
+        Frame::Nothing => Progress { phase, used, wrote },
+        Frame::Cut => Progress { phase, used, wrote },
         Frame::Bad => {
-            let t = b.table;
-            let step = refuse(t, out, wrote);
-            let next = step.bench;
+            let step = refuse(out, wrote);
+            let next = step.phase;
             let end = step.at;
             Progress {
-                bench: next,
+                phase: next,
                 used: input.len(),
                 wrote: end,
             }
         }
         Frame::Whole { kind, start, len } => {
             let after = start + len;
-            let step = carry_out(b, kind, &input[start..after], out, wrote);
-            let next = step.bench;
+            let step = carry_out(t, phase, kind, &input[start..after], out, wrote);
+            let next = step.phase;
             let end = step.at;
             Progress {
-                bench: next,
+                phase: next,
                 used: after,
                 wrote: end,
             }
@@ -393,46 +389,47 @@ fn take_record(b: Bench, input: &[u8], used: usize, out: &mut [u8], wrote: usize
 }
 
 // One record, or none, where the run has ended or the room for a line is too little.
-fn advance(b: Bench, input: &[u8], used: usize, out: &mut [u8], wrote: usize) -> Progress
-    requires { ⌜ (used ≤ length (now input)) × (wrote ≤ length (now out)) × WellFormed (b .table) ⌝ }
-    ensures { λ r. ⌜ Advanced b (now (input .entry)) used (now (out .entry)) wrote r (now (out .exit)) ⌝ }
+fn advance(
+    t: &mut [u32],
+    phase: Phase,
+    input: &[u8],
+    used: usize,
+    out: &mut [u8],
+    wrote: usize,
+) -> Progress
+    requires { ⌜ (used ≤ length (now input)) × (wrote ≤ length (now out)) × Valid (now t) ⌝ }
+    ensures run { λ r. ⌜ Advanced (stateIn phase (now (t .entry))) (now (input .entry)) used (now (out .entry)) wrote r (stateIn (r .phase) (now (t .exit))) (now (out .exit)) ⌝ }
+    ensures kept { λ _. ⌜ Valid (now (t .exit)) ⌝ }
 {
     let room = out.len() - wrote;
     if room < LINE_ROOM {
-        return Progress {
-            bench: b,
-            used,
-            wrote,
-        };
+        return Progress { phase, used, wrote };
     }
-    if ended(b) {
-        return Progress {
-            bench: b,
-            used,
-            wrote,
-        };
+    if ended(phase) {
+        return Progress { phase, used, wrote };
     }
-    take_record(b, input, used, out, wrote)
+    take_record(t, phase, input, used, out, wrote)
 }
 
 // Takes the records of a block of input, as far as they are whole and their lines find room: the first `used` octets of the input are done with, and what
 // they print stands in the first `wrote` octets of the buffer; the others stay as they are. Whatever follows the block, the run goes on from the
-// state in the answer, with the octets of the block that were not used at its front.
-pub fn process(b: Bench, input: &[u8], out: &mut [u8]) -> Progress
-    requires { ⌜ WellFormed (b .table) ⌝ }
-    ensures run { λ r. ⌜ Ran b (now (input .entry)) (now (out .entry)) r (now (out .exit)) ⌝ }
-    ensures stopped { λ r. ⌜ Stopped (now (input .entry)) (now (out .entry)) r ≡ true ⌝ }
+// phase in the answer and the table, with the octets of the block that were not used at its front.
+pub fn process(t: &mut [u32], phase: Phase, input: &[u8], out: &mut [u8]) -> Progress
+    requires { ⌜ Valid (now t) ⌝ }
+    ensures run { λ r. ⌜ Ran (stateIn phase (now (t .entry))) (now (input .entry)) (now (out .entry)) r (stateIn (r .phase) (now (t .exit))) (now (out .exit)) ⌝ }
+    ensures stopped { λ r. ⌜ Stopped (now (input .entry)) (now (out .entry)) r (stateIn (r .phase) (now (t .exit))) ≡ true ⌝ }
+    ensures kept { λ _. ⌜ Valid (now (t .exit)) ⌝ }
 {
     let mut p = Progress {
-        bench: b,
+        phase,
         used: 0,
         wrote: 0,
     };
     loop {
-        let bench = p.bench;
+        let last = p.phase;
         let used = p.used;
         let wrote = p.wrote;
-        let next = advance(bench, input, used, out, wrote);
+        let next = advance(t, last, input, used, out, wrote);
         if next.used == used {
             return next;
         }

@@ -1,28 +1,25 @@
 -- Laws of `specs/Returning.antt`: the case of its definition that each return is, and that the table without the own route holds the others. Assumes nothing.
-use Prim.Native.Nat.{ℕ, suc, _+_, _≤_, _<_, min}
+use Prim.Native.Nat.{ℕ, _+_, _≤_, _<_, min}
 use native.Mathlib.Decide.{ℕ-discrete}
 use native.Mathlib.Omega.{arith}
-use mathlib.Core.Path.{_≡_, refl, ap, _∙_, sym, subst}
-use mathlib.Core.Bool.{Bool, true, false, cond, not, _&&_, _||_, or-true, and-false}
-use mathlib.Core.List.{List, [], _∷_, map}
+use mathlib.Core.Path.{_≡_, refl, ap, _∙_, sym}
+use mathlib.Core.Bool.{Bool, true, false, cond, not, _||_, or-true, and-false}
+use mathlib.Core.List.{List}
 use lib.ListN.{length, getD, drop, replicate, length-replicate, length-map}
-use lib.Dec.{leb, eqb}
+use lib.Dec.{eqb}
 use borrow.Author.Tests.{eq-eqb, ne-eqb}
 use Rattle.address.specs.Address.{addressKey, isZero}
 use Rattle.keyed.specs.Keyed.{padded, has, remove}
 use Rattle.keyed.proofs.Order.{remove-absent, length-remove-le}
-use Rattle.table.specs.declared.Entry.{Entry}
-use Rattle.table.specs.declared.Table.{Table}
-use Rattle.table.specs.Table.{keyOf, none, live, WellFormed, withdrawn, withdrawNumber}
+use Rattle.table.specs.Table.{Entry, Table, keyOf, none, live, WellFormed, withdrawn, withdrawNumber}
 use Rattle.table.proofs.Laws.{live-of, live-next, live-end, length-live}
-use Rattle.places.specs.Places.{places, setOf, picked}
+use Rattle.places.specs.Places.{places, setOf}
 use Rattle.places.proofs.Flags.{picked-all}
 use Rattle.choice.specs.Choice.{bestOf}
 use Rattle.election.specs.Election.{better}
 use Rattle.election.specs.Steps.{bestPlace}
 use Rattle.election.proofs.Answered.{picked-entries, best-picked, best-below}
 use Rattle.returning.specs.Returning.{others, allUnder, reaches, sent, besideReference, advertised, returningOf}
-use Rattle.returning.specs.declared.Sent.{Sent}
 
 -- THE OTHER ROUTES
 pub others-live : (t : Table) (w : WellFormed t) (a : ℕ) → isZero a ≡ false → live (withdrawn t a .table) ≡ others a (live t)

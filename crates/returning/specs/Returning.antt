@@ -13,8 +13,7 @@ use lib.ListN.{length}
 use lib.Dec.{leb, eqb}
 use Rattle.address.specs.Address.{addressKey, isZero}
 use Rattle.keyed.specs.Keyed.{remove}
-use Rattle.table.specs.declared.Entry.{Entry}
-use Rattle.table.specs.Table.{keyOf, none}
+use Rattle.table.specs.Table.{Entry, keyOf, none}
 use Rattle.choice.specs.Choice.{bestOf}
 use Rattle.election.specs.Election.{better}
 use Rattle.returning.specs.declared.Sent.{Sent}

@@ -1,8 +1,10 @@
 // The preference and the DP bit that a router advertises when it comes back from repair (RFC 9785, section 4.3).
 use address::Address;
-use table::Table;
+use table::ATTRIBUTES;
+use table::KIND;
 ghost use mathlib.Core.Path.{_≡_};
-ghost use Rattle.table.specs.Table.{live, WellFormed};
+ghost use Rattle.table.specs.Table.{live};
+ghost use Rattle.table.specs.Words.{tableIn, Valid};
 ghost use Rattle.returning.specs.Returning.{allUnder, reaches, advertised, returningOf};
 
 // The answer: 0 and the pair that is sent, or a refusal number and zeros.
@@ -13,15 +15,15 @@ pub struct Sent {
 }
 
 // Whether all routes of a table carry an algorithm.
-fn all_under(t: Table, algorithm: u8) -> bool
-    requires { ⌜ WellFormed t ⌝ }
-    ensures { λ r. ⌜ r ≡ allUnder algorithm (live t) ⌝ }
+fn all_under(t: &[u32], algorithm: u8) -> bool
+    requires { ⌜ Valid (now t) ⌝ }
+    ensures { λ r. ⌜ r ≡ allUnder algorithm (live (tableIn (now (t .entry)))) ⌝ }
 {
-    let n = t.count;
+    let n = table::count(t);
+    let wanted = algorithm as u32;
     let mut i = 0;
     while i < n {
-        let e = t.entries[i];
-        if e.algorithm != algorithm {
+        if t[ATTRIBUTES + i] / KIND / 2 != wanted {
             return false;
         }
         i += 1;
@@ -40,9 +42,9 @@ fn reach(algorithm: u8, own: u16, reference: u16) -> bool
 }
 
 // What is sent beside the other routes, which stand in a table of their own.
-fn beside(others: Table, algorithm: u8, preference: u16, dp: bool) -> Sent
-    requires { ⌜ WellFormed others ⌝ }
-    ensures { λ r. ⌜ r ≡ advertised algorithm preference dp (live others) ⌝ }
+fn beside(others: &[u32], algorithm: u8, preference: u16, dp: bool) -> Sent
+    requires { ⌜ Valid (now others) ⌝ }
+    ensures { λ r. ⌜ r ≡ advertised algorithm preference dp (live (tableIn (now (others .entry)))) ⌝ }
 {
     let own = Sent {
         number: 0,
@@ -52,7 +54,7 @@ fn beside(others: Table, algorithm: u8, preference: u16, dp: bool) -> Sent
     if !dp {
         return own;
     }
-    let n = others.count;
+    let n = table::count(others);
     if n == 0 {
         return own;
     }
@@ -60,26 +62,41 @@ fn beside(others: Table, algorithm: u8, preference: u16, dp: bool) -> Sent
         return own;
     }
     let at = election::best_place(others, places::below(n), algorithm, 0);
-    let e = others.entries[at];
-    if !e.dp {
+    let low = others[ATTRIBUTES + at] % KIND;
+    if low % 2 != 1 {
         return own;
     }
-    if !reach(algorithm, preference, e.preference) {
+    let reference = (low / 2) as u16;
+    if !reach(algorithm, preference, reference) {
         return own;
     }
     Sent {
         number: 0,
-        preference: e.preference,
+        preference: reference,
         dp: false,
     }
+}
+
+// The words of a table, to be changed apart from it.
+fn copied(t: &[u32]) -> [u32; 139]
+    requires { ⌜ Valid (now t) ⌝ }
+    ensures { λ r. ⌜ r ≡ now (t .entry) ⌝ }
+{
+    let mut words = [0u32; 139];
+    let mut i = 0;
+    while i < 139 {
+        words[i] = t[i];
+        i += 1;
+    }
+    words
 }
 
 // What a returning router advertises: 15 for an own algorithm that is not 2 or 3, 6 for address zero. The own entry is passed over. The administrative pair is
 // sent unless the own DP is set, others stand, all on the own algorithm, and the reference among them has DP set and a preference that the own one reaches:
 // then the reference's preference is sent with DP clear.
-pub fn returning(t: Table, address: Address, algorithm: u8, preference: u16, dp: bool) -> Sent
-    requires { ⌜ WellFormed t ⌝ }
-    ensures { λ r. ⌜ r ≡ returningOf (live t) address algorithm preference dp ⌝ }
+pub fn returning(t: &[u32], address: Address, algorithm: u8, preference: u16, dp: bool) -> Sent
+    requires { ⌜ Valid (now t) ⌝ }
+    ensures { λ r. ⌜ r ≡ returningOf (live (tableIn (now (t .entry)))) address algorithm preference dp ⌝ }
 {
     if algorithm < 2 {
         return Sent {
@@ -102,7 +119,7 @@ pub fn returning(t: Table, address: Address, algorithm: u8, preference: u16, dp:
             dp: false,
         };
     }
-    let change = table::withdraw(t, address);
-    let others = change.table;
-    beside(others, algorithm, preference, dp)
+    let mut others = copied(t);
+    table::withdraw(&mut others, address);
+    beside(&others, algorithm, preference, dp)
 }

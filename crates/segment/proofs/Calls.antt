@@ -5,23 +5,19 @@ use native.Mathlib.Omega.{arith}
 use mathlib.Core.Path.{_≡_, refl, ap, ap₂, sym, _∙_, subst}
 use mathlib.Core.Bool.{Bool, true, false, cond, _||_}
 use mathlib.Core.List.{List, map}
-use lib.ListN.{length, replicate, length-map}
+use lib.ListN.{length, length-map}
 use lib.Dec.{ltb, eqb}
 use borrow.Author.Tests.{ltb-true, lt-ltb, ne-eqb}
-use Rattle.octets.specs.Octets.{stored}
 use Rattle.address.specs.Address.{addressKey}
-use Rattle.esi.specs.Reserved.{reserved}
 use Rattle.route.specs.Route.{routeAddress}
 use Rattle.keyed.specs.Keyed.{has, insert, remove}
 use Rattle.keyed.specs.Journal.{hold, release, neither, journalNumber}
 use Rattle.keyed.proofs.Keyed.{map-has, map-insert, map-remove}
 use Rattle.keyed.proofs.Journal.{Rules, placed}
-use Rattle.table.specs.declared.Entry.{Entry}
-use Rattle.table.specs.declared.Table.{Table}
-use Rattle.table.specs.declared.Change.{Change}
-use Rattle.table.specs.Table.{keyOf, live, tableOf, WellFormed, announceNumber, withdrawNumber, freshTable, announced, withdrawn}
+use Rattle.table.specs.Table.{Entry, Table, keyOf, live, tableOf, WellFormed, announceNumber, withdrawNumber, announced, withdrawn}
+use Rattle.table.specs.Words.{tableIn, Told}
 use Rattle.table.proofs.Laws.{live-of}
-use Rattle.table.proofs.Calls.{Fresh, fresh-reserved, fresh-accepted, announced-kept, withdrawn-kept, passed-route, passed-esi, passed-list, passed-room}
+use Rattle.table.proofs.Calls.{announced-kept, withdrawn-kept, passed-route, passed-esi, passed-list, passed-room}
 use Rattle.election.specs.declared.Answer.{Answer}
 use Rattle.election.specs.Election.{electOf}
 use Rattle.returning.specs.declared.Sent.{Sent}
@@ -147,24 +143,14 @@ call-kept t (withdraw a) w = withdrawn-kept t w a
 call-kept t (elect tag ready) w = w
 call-kept t (returning a alg p d) w = w
 
-pub fresh-kept : (i : List ℕ) → WellFormed (freshTable i .table)
-fresh-kept i = go (reserved i) refl
-  where
-    from : (x : Change) → Fresh i x → WellFormed (freshTable i .table)
-    from x f = subst (λ (y : Change). WellFormed (y .table)) (f .0) (f .1)
-
-    go : (b : Bool) → reserved i ≡ b → WellFormed (freshTable i .table)
-    go true h = from _ (fresh-reserved i h)
-    go false h = from _ (fresh-accepted i (stored (replicate 10 0) 0 i) h refl)
-
 -- what the code answers is the list's call
-pub announce-changes : (t : Table) (r c : List ℕ) {x : Change} → x ≡ announced t r c → Changes t (announce r c) x
+pub announce-changes : (t : Table) (r c : List ℕ) (n p : ℕ) (b : List ℕ) → Told (announced t r c) n p b → Changes t (announce r c) n (tableIn b)
 unfolding replyTo leaves
-announce-changes t r c q = (ap (λ (y : Change). changed (y .number)) (sym q), ap (λ (y : Change). y .table) (sym q))
+announce-changes t r c n p b o = (ap changed (sym (o .0)), sym (o .2))
 
-pub withdraw-changes : (t : Table) (a : ℕ) {x : Change} → x ≡ withdrawn t a → Changes t (withdraw a) x
+pub withdraw-changes : (t : Table) (a n p : ℕ) (b : List ℕ) → Told (withdrawn t a) n p b → Changes t (withdraw a) n (tableIn b)
 unfolding replyTo leaves
-withdraw-changes t a q = (ap (λ (y : Change). changed (y .number)) (sym q), ap (λ (y : Change). y .table) (sym q))
+withdraw-changes t a n p b o = (ap changed (sym (o .0)), sym (o .2))
 
 -- what the code answers to an election and to a returning router is the list's reply
 pub elect-replies : (t : Table) (tag : ℕ) (ready : List ℕ) {r : Answer} → r ≡ electOf (t .esi) (live t) tag ready → replyTo t (elect tag ready) ≡ elected r

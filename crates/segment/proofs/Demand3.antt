@@ -12,15 +12,14 @@ use Rattle.keyed.specs.Journal.{after, answers, heldAt, heard, lastHeld}
 use Rattle.keyed.proofs.Keyed.{map-insert}
 use Rattle.keyed.proofs.Order.{perm-length, perm-arranged, rising-arranged-all, rising-unique}
 use Rattle.keyed.proofs.Journal as journal
-use Rattle.table.specs.declared.Entry.{Entry}
-use Rattle.table.specs.declared.Table.{Table}
-use Rattle.table.specs.Table.{keyOf, live, WellFormed, ownerOf, freshTable}
+use Rattle.table.specs.Table.{Entry, Table, keyOf, live, WellFormed, ownerOf, freshTable}
+use Rattle.table.proofs.Calls.{fresh-kept}
 use Rattle.election.specs.Election.{electOf}
 use Rattle.returning.specs.Returning.{returningOf}
 use Rattle.segment.specs.Calls.{Call, announce, withdraw, elect, returning, Reply, changed, elected, sent, numberIn, replyTo, leaves}
 use Rattle.segment.specs.Journal.{Announcement, originatorKey, again, entryFrom, entriesFrom, callNumber, callEffect, numberFor, step, journalReply, held}
-use Rattle.segment.specs.Demand3.{replies, tableAfter, Demand3}
-use Rattle.segment.proofs.Calls.{rules, state, live-state, announced-number, withdrawn-number, call-state, refused-leaves, call-kept, fresh-kept}
+use Rattle.segment.specs.Demand3.{tableAfter, Demand3}
+use Rattle.segment.proofs.Calls.{rules, state, live-state, announced-number, withdrawn-number, call-state, refused-leaves, call-kept}
 
 -- THE ENTRIES of what is held, in order
 entries-arranged : (js : List Announcement) → entriesFrom js ≡ arranged keyOf (map entryFrom js)

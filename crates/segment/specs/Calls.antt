@@ -6,14 +6,12 @@
 --   replyTo t c           == what the call c answers, on the table t: of an announcement or a withdrawal its number, of the others the whole answer
 --   numberIn r            == the number of the reply r: 0, or a refusal
 --   leaves t c            == the table after the call c on the table t; an election and a call for a returning router hand none back
---   Changes t c r         == r is what the call c, an announcement or a withdrawal, answers and leaves on the table t
+--   Changes t c n u       == the number n and the table u are what the call c, an announcement or a withdrawal, answers and leaves on the table t
 use Prim.Native.Nat.{ℕ}
 use mathlib.Core.Path.{_≡_}
 use mathlib.Core.Bool.{Bool}
 use mathlib.Core.List.{List}
-use Rattle.table.specs.declared.Table.{Table}
-use Rattle.table.specs.declared.Change.{Change}
-use Rattle.table.specs.Table.{live, announced, withdrawn}
+use Rattle.table.specs.Table.{Table, live, announced, withdrawn}
 use Rattle.election.specs.declared.Answer.{Answer}
 use Rattle.election.specs.Election.{electOf}
 use Rattle.returning.specs.declared.Sent.{Sent}
@@ -48,5 +46,5 @@ leaves t (elect tag ready) = t
 leaves t (returning a alg p d) = t
 
 -- ties the code's answers to the list's calls
-abbrev pub Changes : Table → Call → Change → Type 0
-Changes t c r = (replyTo t c ≡ changed (r .number)) × (leaves t c ≡ r .table)
+abbrev pub Changes : Table → Call → ℕ → Table → Type 0
+Changes t c n u = (replyTo t c ≡ changed n) × (leaves t c ≡ u)

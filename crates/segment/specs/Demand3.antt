@@ -10,9 +10,7 @@ use mathlib.Core.Option.{none}
 use lib.ListN.{length, replicate}
 use Rattle.keyed.specs.Keyed.{Rising}
 use Rattle.keyed.specs.Journal.{after, answers, heldAt, lastHeld}
-use Rattle.table.specs.declared.Entry.{Entry}
-use Rattle.table.specs.declared.Table.{Table}
-use Rattle.table.specs.Table.{keyOf, WellFormed, ownerOf, freshTable}
+use Rattle.table.specs.Table.{Entry, Table, keyOf, WellFormed, ownerOf, freshTable}
 use Rattle.election.specs.Election.{electOf}
 use Rattle.returning.specs.Returning.{returningOf}
 use Rattle.segment.specs.Calls.{Call, elect, returning, Reply, changed, elected, sent, numberIn, replyTo, leaves}

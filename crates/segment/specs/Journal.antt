@@ -19,8 +19,7 @@ use Rattle.route.specs.Route.{routeAddress}
 use Rattle.community.specs.Community.{electionIn}
 use Rattle.keyed.specs.Keyed.{arranged}
 use Rattle.keyed.specs.Journal.{Effect, hold, release, neither, after, journalNumber, journalStep}
-use Rattle.table.specs.declared.Entry.{Entry}
-use Rattle.table.specs.Table.{entryOf, ownerOf, announceNumber, withdrawNumber}
+use Rattle.table.specs.Table.{Entry, entryOf, ownerOf, announceNumber, withdrawNumber}
 use Rattle.election.specs.Election.{electOf}
 use Rattle.returning.specs.Returning.{returningOf}
 use Rattle.segment.specs.Calls.{Call, announce, withdraw, elect, returning, Reply, changed, elected, sent}

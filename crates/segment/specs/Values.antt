@@ -9,12 +9,12 @@ use mathlib.Core.List.{List, [], _∷_}
 use Rattle.octets.specs.Octets.{sameOctets}
 use Rattle.community.specs.declared.Election.{Election}
 use Rattle.community.specs.Community.{electionUnder, communityOctets, readCommunity}
-use Rattle.table.specs.declared.Entry.{Entry}
 use Rattle.hrw.specs.Weight.{weightOf}
 use Rattle.election.specs.declared.Answer.{Answer}
 use Rattle.election.specs.Election.{elected, electOf}
 use Rattle.returning.specs.declared.Sent.{Sent}
 use Rattle.returning.specs.Returning.{returningOf}
+use Rattle.table.specs.Table.{Entry}
 
 pub record Value : Type 0 where
   pub computed : List ℕ

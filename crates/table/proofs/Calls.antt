@@ -1,19 +1,18 @@
 -- Laws of the calls of a table: which case of its definition each return is, and that every call keeps a table well formed. Assumes nothing.
 use Prim.Native.Nat.{ℕ, suc, _+_, _-_, _≤_, _<_}
 use native.Mathlib.Omega.{arith}
-use mathlib.Core.Path.{_≡_, refl, ap, _∙_, sym, subst}
+use mathlib.Core.Path.{_≡_, refl, ap, _∙_, sym}
 use mathlib.Core.Bool.{Bool, true, false, cond, not, _||_}
 use mathlib.Core.List.{List, [], _∷_, _++_}
 use mathlib.Core.Logic.{_⊎_, inl, inr, ⊎-elim}
 use lib.ListN.{length, set, take, length-set, replicate}
 use lib.Dec.{ltb, eqb}
 use borrow.Author.Tests.{lt-ltb, le-ltb, ltb-true, ne-eqb, eqb-true, eqb-false}
-use Rattle.octets.specs.Octets.{sameOctets, stored}
-use Rattle.octets.proofs.Laws.{same-equal, stored-all}
+use Rattle.octets.specs.Octets.{sameOctets}
+use Rattle.octets.proofs.Laws.{same-equal}
 use Rattle.address.specs.Address.{addressKey, isZero}
 use Rattle.address.proofs.Laws.{not-zero}
 use Rattle.esi.specs.Reserved.{reserved}
-use Rattle.esi.proofs.Laws.{length-not-reserved}
 use Rattle.route.specs.Route.{routeEsi, routeAddress, routeNumber, routePlace, Fault, checkedNumber, checkedPlace, routeChecked}
 use Rattle.route.specs.declared.Checked.{Checked}
 use Rattle.route.specs.declared.Checked.the-variants.{Originator, Refused}
@@ -24,11 +23,8 @@ use Rattle.community.proofs.Laws.{list-refused, list-accepted, election-right}
 use Rattle.keyed.specs.Keyed.{spliced, cut, Rising, has, rank, insert, remove, Every}
 use Rattle.keyed.proofs.Keyed as keyed
 use Rattle.keyed.proofs.Order.{length-insert, length-remove-le}
-use Rattle.table.specs.Table.{keyOf, none, entryOf, EntryRight, live, tableOf, WellFormed, ownerOf, announceNumber, withdrawNumber, changed, freshTable, announced, withdrawn}
-use Rattle.table.specs.Steps.{foundIn, admitted}
-use Rattle.table.specs.declared.Entry.{Entry}
-use Rattle.table.specs.declared.Table.{Table}
-use Rattle.table.specs.declared.Change.{Change}
+use Rattle.table.specs.Table.{Entry, Table, Change, keyOf, none, entryOf, EntryRight, live, tableOf, WellFormed, ownerOf, announceNumber, withdrawNumber, changed, freshTable, announced, withdrawn}
+use Rattle.table.specs.Steps.{replaced, grown, shrunk, foundIn, admitted}
 use Rattle.table.specs.declared.Found.the-variants.{At, Missing}
 use Rattle.table.proofs.Laws.{live-of, same-table, length-live, rank-count}
 
@@ -53,19 +49,13 @@ empty-kept : (i : List ℕ) → (reserved i ≡ false) ⊎ (i ≡ replicate 10 0
 unfolding Rising Every
 empty-kept i o = well-formed i [] (⊎-elim (λ h. inl h) (λ h. inr (h, refl)) o) (omega arith) tt tt
 
-module _ (i : List ℕ) where
-  abbrev pub Fresh : Change → Type 0
-  Fresh r = (r ≡ freshTable i) × WellFormed (r .table)
-
-  pub fresh-reserved : reserved i ≡ true → Fresh (refused 4 (tableOf (replicate 10 0) []))
-  unfolding freshTable ownerOf
-  fresh-reserved h = (rw h, empty-kept (replicate 10 0) (inr refl))
-
-  pub fresh-accepted : (own : List ℕ) → reserved i ≡ false → own ≡ stored (replicate 10 0) 0 i → Fresh (accepted (tableOf own []))
-  unfolding freshTable ownerOf
-  fresh-accepted own h q =
-      let e : own ≡ i = q ∙ stored-all (replicate 10 0) i (length-not-reserved i h) in
-      (rw (h, e), empty-kept own (inl (ap reserved e ∙ h)))
+pub fresh-kept : (i : List ℕ) → WellFormed (freshTable i .table)
+unfolding freshTable ownerOf
+fresh-kept i = go (reserved i) refl
+  where
+    go : (b : Bool) → reserved i ≡ b → WellFormed (tableOf (cond b (replicate 10 0) i) [])
+    go true h = empty-kept (replicate 10 0) (inr refl)
+    go false h = empty-kept i (inl h)
 
 -- what is found says whether the key is there, and where
 at-told : (b : Bool) (r i : ℕ) → cond b (At r) (Missing r) ≡ At i → (b ≡ true) × (i ≡ r)
@@ -111,22 +101,21 @@ module _ (t : Table) (w : WellFormed t) where
   -- an entry that passed the checks before the last
   module _ (e : Entry) (i : ℕ) where
     pub admitted-at : foundIn (keyOf e) (live t) ≡ At i
-        → accepted (record { esi = t .esi; count = t .count; entries = set (t .entries) i e }) ≡ admitted t e
+        → accepted (replaced t i e) ≡ admitted t e
     unfolding admitted
     admitted-at h =
         rw (at-there (keyOf e) i h, keyed.insert-present keyOf e (live t) none (present (keyOf e) i h), ← at-rank (keyOf e) i h)
         (ap accepted (same-table (t .esi) (sym (length-set (live t) i e ∙ length-live t w))
         (ap (λ (m : List Entry). set m i e) (w .rest) ∙ keyed.set-padded 64 none (live t) i e (at-length (keyOf e) i h))))
 
-    pub admitted-new : foundIn (keyOf e) (live t) ≡ Missing i → t .count < 64 → {es : List Entry} → es ≡ take 64 (spliced (t .entries) i e)
-        → accepted (record { esi = t .esi; count = t .count + 1; entries = es }) ≡ admitted t e
+    pub admitted-new : foundIn (keyOf e) (live t) ≡ Missing i → t .count < 64 → accepted (grown t i e) ≡ admitted t e
     unfolding admitted
-    admitted-new h s q =
+    admitted-new h s =
         let f : length (live t) < 64 = omega (arith, length-live t w) in
         let absent = keyed.absent-of keyOf (keyOf e) (live t) none (missing-there (keyOf e) i h) in
         rw (missing-there (keyOf e) i h, lt-ltb _ _ f, keyed.insert-absent keyOf e (live t) none absent, ← missing-rank (keyOf e) i h)
         (ap accepted (same-table (t .esi) (omega (arith, keyed.length-spliced (live t) i e, length-live t w))
-        (q ∙ ap (λ (m : List Entry). take 64 (spliced m i e)) (w .rest) ∙ keyed.splice-padded 64 none (live t) i e (omega (arith, missing-count (keyOf e) i h, length-live t w)))))
+        (ap (λ (m : List Entry). take 64 (spliced m i e)) (w .rest) ∙ keyed.splice-padded 64 none (live t) i e (omega (arith, missing-count (keyOf e) i h, length-live t w)))))
 
     pub admitted-full : foundIn (keyOf e) (live t) ≡ Missing i → 64 ≤ t .count → refused 8 t ≡ admitted t e
     unfolding admitted
@@ -183,15 +172,14 @@ module _ (t : Table) (w : WellFormed t) where
     unfolding withdrawn withdrawNumber
     withdrawn-missing i z h = rw (z, missing-there (addressKey a) i h)
 
-    pub withdrawn-at : (i : ℕ) → isZero a ≡ false → foundIn (addressKey a) (live t) ≡ At i → {es : List Entry} → es ≡ cut (t .entries) i ++ (none ∷ [])
-        → accepted (record { esi = t .esi; count = t .count - 1; entries = es }) ≡ withdrawn t a
+    pub withdrawn-at : (i : ℕ) → isZero a ≡ false → foundIn (addressKey a) (live t) ≡ At i → accepted (shrunk t i) ≡ withdrawn t a
     unfolding withdrawn withdrawNumber
-    withdrawn-at i z h q =
+    withdrawn-at i z h =
         let k = addressKey a in
         let l = at-length k i h in
         rw (z, at-there k i h, keyed.remove-present keyOf k (live t) none (present k i h), ← at-rank k i h)
         (ap accepted (same-table (t .esi) (omega (arith, keyed.length-cut (live t) i l, length-live t w))
-        (q ∙ ap (λ (m : List Entry). cut m i ++ (none ∷ [])) (w .rest) ∙ keyed.cut-padded 64 none (live t) i l (omega (arith, length-live t w, w .short)))))
+        (ap (λ (m : List Entry). cut m i ++ (none ∷ [])) (w .rest) ∙ keyed.cut-padded 64 none (live t) i l (omega (arith, length-live t w, w .short)))))
 
 -- WHAT PASSED CHECKS SAY
 passed : (b : Bool) (n m : ℕ) → cond (not b) (suc n) m ≡ 0 → (b ≡ true) × (m ≡ 0)
@@ -244,6 +232,16 @@ chosen-kept n p old new w f = go (eqb n 0) refl
     go false e = w
 
 module _ (t : Table) (w : WellFormed t) where
+  pub inserted-short : (r c : List ℕ)
+      → announceNumber (t .esi) r c (has keyOf (addressKey (routeAddress r)) (live t)) (length (live t)) ≡ 0
+      → length (insert keyOf (entryOf (routeAddress r) (electionIn c)) (live t)) ≤ 64
+  inserted-short r c h =
+      let present = has keyOf (addressKey (routeAddress r)) (live t) in
+      length-inserted (entryOf (routeAddress r) (electionIn c)) (live t) (w .rising) (omega (arith, length-live t w, w .short)) (passed-room (t .esi) r c present (length (live t)) h)
+
+  pub removed-short : (k : ℕ) → length (remove keyOf k (live t)) ≤ 64
+  removed-short k = omega (arith, length-remove-le keyOf k (live t), length-live t w, w .short)
+
   pub announced-kept : (r c : List ℕ) → WellFormed (announced t r c .table)
   unfolding announced
   announced-kept r c = chosen-kept n (routePlace r) t (tableOf (t .esi) (insert keyOf e l)) w new
@@ -265,7 +263,7 @@ module _ (t : Table) (w : WellFormed t) where
           let right = election-right c in
           well-formed (t .esi) (insert keyOf e l)
           (inl (ap reserved own ∙ route-esi r route))
-          (length-inserted e l (w .rising) (omega (arith, length-live t w, w .short)) (passed-room (t .esi) r c p (length l) h))
+          (inserted-short r c h)
           (keyed.rising-insert keyOf e l 1 (not-zero (routeAddress r) (route-address r route)) (w .rising))
           (keyed.every-insert keyOf EntryRight e l (right .0, ap (entryOf (routeAddress r)) (right .1)) (w .right))
 
@@ -283,23 +281,10 @@ module _ (t : Table) (w : WellFormed t) where
       new =
           well-formed (t .esi) (remove keyOf k (live t))
           (⊎-elim (λ h. inl h) (λ h. inr (h .0, omega (arith, fewer, h .1))) (w .owner))
-          (omega (arith, fewer, w .short))
+          (removed-short k)
           (keyed.rising-remove keyOf k (live t) 1 (w .rising))
           (keyed.every-remove keyOf EntryRight k (live t) (w .right))
 
-  -- all promises of a call, from the first
-  announced-fault : (r c : List ℕ) → Fault r (routeNumber r) (announced t r c .place)
+  pub announced-fault : (r c : List ℕ) → Fault r (routeNumber r) (announced t r c .place)
   unfolding announced
   announced-fault r c = route-fault r
-
-  pub announced-all : (r c : List ℕ) {x : Change} → x ≡ announced t r c → (x ≡ announced t r c) × (WellFormed (x .table) × Fault r (routeNumber r) (x .place))
-  announced-all r c q = (
-    q,
-    (
-      subst (λ (y : Change). WellFormed (y .table)) (sym q) (announced-kept r c),
-      subst (λ (y : Change). Fault r (routeNumber r) (y .place)) (sym q) (announced-fault r c),
-    ),
-  )
-
-  pub withdrawn-both : (a : ℕ) {x : Change} → x ≡ withdrawn t a → (x ≡ withdrawn t a) × WellFormed (x .table)
-  withdrawn-both a q = (q, subst (λ (y : Change). WellFormed (y .table)) (sym q) (withdrawn-kept a))

@@ -12,12 +12,10 @@ use lib.Seq.{length-take-le, getD-take, drop-cons}
 use lib.Pow.{pow-mono}
 use lib.Dec.{leb}
 use borrow.Author.Tests.{leb-true, leb-false}
-use Rattle.keyed.specs.Keyed.{padded, rank}
+use Rattle.keyed.specs.Keyed.{rank}
 use Rattle.keyed.proofs.Keyed as keyed
-use Rattle.table.specs.Table.{keyOf, none, live, tableOf, WellFormed}
-use Rattle.table.specs.Steps.{UnusedFrom, foundIn}
-use Rattle.table.specs.declared.Entry.{Entry}
-use Rattle.table.specs.declared.Table.{Table}
+use Rattle.table.specs.Table.{Entry, Table, keyOf, none, live, tableOf, WellFormed}
+use Rattle.table.specs.Steps.{foundIn}
 use Rattle.table.specs.declared.Found.the-variants.{At, Missing}
 
 -- ---- a search that halves its range: after k looks a range of r places has r * 2^k at most 64
@@ -51,13 +49,6 @@ module _ (t : Table) (w : WellFormed t) where
 
   pub length-live : length (live t) ≡ t .count
   length-live = length-take-le (t .count) (t .entries) (omega (arith, length-entries, w .short))
-
-  -- the places after the entries in use
-  pub unused : UnusedFrom (t .count) (t .entries)
-  unused =
-      ap (drop (t .count)) (w .rest)
-      ∙ ap (λ (n : ℕ). drop n (padded 64 none (live t))) (sym length-live)
-      ∙ keyed.drop-padded 64 (64 - t .count) none (live t) (omega (arith, length-live, w .short))
 
   -- a well-formed table is the one that its identifier and its entries make
   pub canonical : t ≡ tableOf (t .esi) (live t)

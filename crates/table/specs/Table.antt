@@ -1,4 +1,5 @@
 -- The table of the routes of one segment (document 01, "The table").
+--   Entry, Table                 == an entry; a table: the identifier, how many entries are in use, and 64 places for them
 --   keyOf e                      == the number that an entry is ordered by
 --   none                         == an unused place
 --   entryOf a e                  == the entry of the address a, as its communities say e
@@ -10,6 +11,7 @@
 --   announceNumber i r c p n     == 0, or the number of the first check that refuses an announcement of the route r with the communities c
 --                                   to the table of i, where p tells whether its address is present and n are present
 --   withdrawNumber a p           == the same for a withdrawal of the address a, where p tells whether it is present
+--   Change                       == what a call answers, a number and a place, and the table as it then is
 --   changed n p old new          == the answer n with the place p, and the new table if n is 0 and else the old one
 --   freshTable i, announced t r c, withdrawn t a  == the answers of the three calls
 use Prim.Native.Nat.{ℕ, _≤_}
@@ -26,11 +28,15 @@ use Rattle.route.specs.Route.{routeEsi, routeAddress, routeNumber, routePlace}
 use Rattle.community.specs.declared.Election.{Election}
 use Rattle.community.specs.Community.{electionUnder, listFits, electionIn}
 use Rattle.keyed.specs.Keyed.{padded, Rising, has, insert, remove, Every}
-use Rattle.table.specs.declared.Entry.{Entry}
-use Rattle.table.specs.declared.Table.{Table}
-use Rattle.table.specs.declared.Change.{Change}
 
 -- ENTRIES: the address, the algorithm, the AC-DF bit, the DP bit and the preference, as the community was read, and nothing else
+pub record Entry : Type 0 where
+  pub address : ℕ
+  pub algorithm : ℕ
+  pub «ac_df» : Bool
+  pub dp : Bool
+  pub preference : ℕ
+
 abbrev pub keyOf : Entry → ℕ
 keyOf e = addressKey (e .address)
 
@@ -45,6 +51,11 @@ abbrev pub EntryRight : Entry → Type 0
 EntryRight e = (e .algorithm ≤ 31) × (e ≡ entryOf (e .address) (electionUnder (e .algorithm) (e .«ac_df») (e .dp) (e .preference)))
 
 -- STATES
+pub record Table : Type 0 where
+  pub esi : List ℕ
+  pub count : ℕ
+  pub entries : List Entry
+
 abbrev pub live : Table → List Entry
 live t = take (t .count) (t .entries)
 
@@ -76,6 +87,11 @@ withdrawNumber a present = cond (isZero a) 6 (cond (not present) 9 0)
 
 -- ANSWERS: a refused call leaves the table as it got it. An announcement passes on the place of its route's refusal, which is 0 where the route is
 -- accepted (document 02, M-103); the other calls have place 0
+pub record Change : Type 0 where
+  pub number : ℕ
+  pub place : ℕ
+  pub table : Table
+
 abbrev pub changed : ℕ → ℕ → Table → Table → Change
 changed n p old new = record { number = n; place = p; table = cond (eqb n 0) new old }
 

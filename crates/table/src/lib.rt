@@ -1,5 +1,6 @@
 // The routes of one segment: a table of at most 64 entries in rising address order, unused places zero.
-// A table goes in by value and comes back by value; a refused call hands back the table that it got.
+// A table lies in 139 words that the caller lends: 64 addresses, 64 words of attributes, the number of entries, the ten octets of the identifier.
+// A refused call leaves them as they were.
 use address::Address;
 use address::Order;
 use community::Election;
@@ -7,12 +8,14 @@ use route::Checked;
 ghost use mathlib.Core.Path.{_≡_};
 ghost use mathlib.Core.List.{[], _∷_, _++_};
 ghost use Prim.Native.Nat.{_≤_, _<_};
-ghost use lib.ListN.{take};
+ghost use lib.ListN.{length, take};
+ghost use Rattle.octets.specs.Octets.{sameOctets};
 ghost use Rattle.address.specs.Address.{addressKey};
 ghost use Rattle.route.specs.Route.{Fault, routeNumber};
 ghost use Rattle.keyed.specs.Keyed.{spliced, cut};
-ghost use Rattle.table.specs.Table.{keyOf, none, entryOf, EntryRight, live, WellFormed, freshTable, announced, withdrawn};
-ghost use Rattle.table.specs.Steps.{UnusedFrom, foundIn, admitted};
+ghost use Rattle.table.specs.Table.{entryOf, live, freshTable, announced, withdrawn};
+ghost use Rattle.table.specs.Words.{entryIn, wordsOf, tableIn, Octets, Valid, Told};
+ghost use Rattle.table.specs.Steps.{ZerosFrom, Packed, replaced, grown, shrunk, foundIn, Stored, admitted};
 
 // The most routes that a table holds.
 pub const MAX_ROUTES: usize = 64;
@@ -20,26 +23,26 @@ pub const MAX_ROUTES: usize = 64;
 // The preference that a configuration would start from (RFC 9785); no rule of the table uses it.
 pub const DEFAULT_PREFERENCE: u16 = 32767;
 
-// What a route's communities say of its originator.
-pub struct Entry {
-    pub address: Address,
-    pub algorithm: u8,
-    pub ac_df: bool,
-    pub dp: bool,
-    pub preference: u16,
+// Where the parts of a table start in its words; the addresses start at 0.
+pub const ATTRIBUTES: usize = 64;
+
+pub const COUNT: usize = 128;
+
+pub const ESI: usize = 129;
+
+// What the algorithm and the AC-DF bit are worth in a word of attributes: below them are 16 bits of preference and the DP bit.
+pub const KIND: u32 = 131072;
+
+// A fresh table: 0 or a refusal number, and the words of the table.
+pub struct Made {
+    pub number: u8,
+    pub table: [u32; 139],
 }
 
-pub struct Table {
-    pub esi: [u8; 10],
-    pub count: usize,
-    pub entries: [Entry; 64],
-}
-
-// The answer of a call: 0 or a refusal number, the place that a route's refusal speaks of (else 0), and the table as it then is.
-pub struct Change {
+// The answer to an announcement: 0 or a refusal number, and the place that a route's refusal speaks of (else 0).
+pub struct Verdict {
     pub number: u8,
     pub place: usize,
-    pub table: Table,
 }
 
 // Where an address stands, or the place at which it would stand.
@@ -54,58 +57,81 @@ pub struct Lookup {
     pub looks: u32,
 }
 
-const NONE: Entry = Entry {
-    address: 0,
-    algorithm: 0,
-    ac_df: false,
-    dp: false,
-    preference: 0,
-};
+// An octet as a word.
+fn octet(x: u8) -> u32
+    ensures { λ r. ⌜ (r ≡ x) × (r < 256) ⌝ }
+{
+    x as u32
+}
+
+// Writes an identifier of ten octets into its words.
+fn put_identifier(t: &mut [u32], esi: &[u8])
+    requires { ⌜ (length (now t) ≡ 139) × (length (now esi) ≡ 10) ⌝ }
+    ensures words { λ _. ⌜ now (t .exit) ≡ take 129 (now (t .entry)) ++ now (esi .entry) ⌝ }
+    ensures octets { λ _. ⌜ Octets (now (esi .entry)) ⌝ }
+{
+    let mut i = 0;
+    while i < 10 {
+        t[ESI + i] = octet(esi[i]);
+        i += 1;
+    }
+}
 
 // A fresh table for an identifier. For a reserved one, or one that is not ten octets, 4 and the empty table of the all-zero identifier.
-pub fn fresh(esi: &[u8]) -> Change
-    ensures answer { λ r. ⌜ r ≡ freshTable (now (esi .entry)) ⌝ }
-    ensures kept { λ r. ⌜ WellFormed (r .table) ⌝ }
+pub fn fresh(esi: &[u8]) -> Made
+    ensures answer { λ r. ⌜ Told (freshTable (now (esi .entry))) (r .number) 0 (r .table) ⌝ }
+    ensures kept { λ r. ⌜ Valid (r .table) ⌝ }
 {
-    let mut own = [0u8; 10];
+    let mut words = [0u32; 139];
     if esi::is_reserved(esi) {
-        return Change {
+        return Made {
             number: 4,
-            place: 0,
-            table: Table {
-                esi: own,
-                count: 0,
-                entries: [NONE; 64],
-            },
+            table: words,
         };
     }
-    octets::store(&mut own, 0, esi);
-    Change {
+    put_identifier(&mut words, esi);
+    Made {
         number: 0,
-        place: 0,
-        table: Table {
-            esi: own,
-            count: 0,
-            entries: [NONE; 64],
-        },
+        table: words,
     }
+}
+
+// How many routes are in a table.
+pub fn count(t: &[u32]) -> usize
+    requires { ⌜ Valid (now t) ⌝ }
+    ensures { λ r. ⌜ r ≡ tableIn (now (t .entry)) .count ⌝ }
+{
+    t[COUNT] as usize
+}
+
+// The identifier that a table belongs to.
+pub fn identifier(t: &[u32]) -> [u8; 10]
+    requires { ⌜ Valid (now t) ⌝ }
+    ensures { λ r. ⌜ r ≡ tableIn (now (t .entry)) .esi ⌝ }
+{
+    let mut esi = [0u8; 10];
+    let mut i = 0;
+    while i < 10 {
+        esi[i] = (t[ESI + i] % 256) as u8;
+        i += 1;
+    }
+    esi
 }
 
 // Looks an address up: where it stands, and at how many entries the search looked. The range is halved at each look, and one look at an entry
 // decides less, equal or greater, so seven looks are enough for 64 entries, found or not.
-pub fn search(t: Table, address: Address) -> Lookup
-    requires { ⌜ WellFormed t ⌝ }
-    ensures found { λ r. ⌜ r .found ≡ foundIn (addressKey address) (live t) ⌝ }
+pub fn search(t: &[u32], address: Address) -> Lookup
+    requires { ⌜ Valid (now t) ⌝ }
+    ensures found { λ r. ⌜ r .found ≡ foundIn (addressKey address) (live (tableIn (now (t .entry)))) ⌝ }
     ensures looks { λ r. ⌜ r .looks ≤ 7 ⌝ }
 {
     let mut lo = 0;
-    let mut hi = t.count;
+    let mut hi = t[COUNT] as usize;
     let mut looks = 0;
     while lo < hi {
         let mid = lo + (hi - lo) / 2;
-        let e = t.entries[mid];
         looks += 1;
-        let order = address::compare(e.address, address);
+        let order = address::compare(t[mid], address);
         match order {
             Order::Equal => {
                 return Lookup {
@@ -128,178 +154,172 @@ pub fn search(t: Table, address: Address) -> Lookup
 }
 
 // Where an address stands. Every lookup in the table goes through here, and so looks at seven entries at most.
-pub fn find(t: Table, address: Address) -> Found
-    requires { ⌜ WellFormed t ⌝ }
-    ensures { λ r. ⌜ r ≡ foundIn (addressKey address) (live t) ⌝ }
+pub fn find(t: &[u32], address: Address) -> Found
+    requires { ⌜ Valid (now t) ⌝ }
+    ensures { λ r. ⌜ r ≡ foundIn (addressKey address) (live (tableIn (now (t .entry)))) ⌝ }
 {
     let r = search(t, address);
     r.found
 }
 
-// One entry more: of the n entries those from place `at` on move right, the last of them into an unused place.
-fn opened(es: [Entry; 64], n: usize, at: usize, e: Entry) -> [Entry; 64]
-    requires { ⌜ (at ≤ n) × (n < 64) × UnusedFrom n es ⌝ }
-    ensures { λ r. ⌜ r ≡ take 64 (spliced es at e) ⌝ }
+// What an entry says besides its address, as one word. A preference has 16 bits.
+fn attributes(e: Election) -> u32
+    ensures { λ r. ⌜ Packed e r ⌝ }
 {
-    let mut out = es;
-    let mut carry = e;
-    let mut i = at;
-    while i < n {
-        let x = out[i];
-        out[i] = carry;
-        carry = x;
-        i += 1;
-    }
-    out[n] = carry;
-    out
+    let kind = (e.algorithm as u32) * 2 + (e.ac_df as u32);
+    let low = (e.preference as u32) * 2 + (e.dp as u32);
+    kind * KIND + low
 }
 
-// One entry less: of the n entries those after place `at` move left, and the place of the last is zero.
-fn closed(es: [Entry; 64], n: usize, at: usize) -> [Entry; 64]
-    requires { ⌜ (at < n) × (n ≤ 64) × UnusedFrom n es ⌝ }
-    ensures { λ r. ⌜ r ≡ cut es at ++ (none ∷ []) ⌝ }
+// One word more among the first n: those from place `at` on move right, the last of them into an unused place.
+fn opened(s: &mut [u32], n: usize, at: usize, x: u32)
+    requires { ⌜ (at ≤ n) × (n < length (now s)) × ZerosFrom n (now s) ⌝ }
+    ensures { λ _. ⌜ now (s .exit) ≡ take (length (now (s .entry))) (spliced (now (s .entry)) at x) ⌝ }
+{
+    let mut i = n;
+    while at < i {
+        let from = i - 1;
+        s[i] = s[from];
+        i = from;
+    }
+    s[at] = x;
+}
+
+// One word less among the first n: those after place `at` move left, and the place of the last is zero.
+fn closed(s: &mut [u32], n: usize, at: usize)
+    requires { ⌜ (at < n) × (n ≤ length (now s)) × ZerosFrom n (now s) ⌝ }
+    ensures { λ _. ⌜ now (s .exit) ≡ cut (now (s .entry)) at ++ (0 ∷ []) ⌝ }
 {
     let last = n - 1;
-    let mut out = es;
     let mut i = at;
     while i < last {
-        let x = out[i + 1];
-        out[i] = x;
+        s[i] = s[i + 1];
         i += 1;
     }
-    out[last] = NONE;
-    out
+    s[last] = 0;
+}
+
+// An entry at a place in use, instead of the one that stands there.
+fn replace(t: &mut [u32], at: usize, address: Address, word: u32)
+    requires { ⌜ Valid (now t) × (at < tableIn (now t) .count) ⌝ }
+    ensures { λ _. ⌜ now (t .exit) ≡ wordsOf (replaced (tableIn (now (t .entry))) at (entryIn address word)) ⌝ }
+{
+    t[at] = address;
+    t[ATTRIBUTES + at] = word;
+}
+
+// One entry more, before the one at a place.
+fn grow(t: &mut [u32], at: usize, address: Address, word: u32)
+    requires { ⌜ Valid (now t) × (at ≤ tableIn (now t) .count) × (tableIn (now t) .count < 64) ⌝ }
+    ensures { λ _. ⌜ now (t .exit) ≡ wordsOf (grown (tableIn (now (t .entry))) at (entryIn address word)) ⌝ }
+{
+    let n = count(t);
+    opened(&mut t[0..ATTRIBUTES], n, at, address);
+    opened(&mut t[ATTRIBUTES..COUNT], n, at, word);
+    t[COUNT] = (n + 1) as u32;
+}
+
+// One entry less: the one at a place goes.
+fn shrink(t: &mut [u32], at: usize)
+    requires { ⌜ Valid (now t) × (at < tableIn (now t) .count) ⌝ }
+    ensures { λ _. ⌜ now (t .exit) ≡ wordsOf (shrunk (tableIn (now (t .entry))) at) ⌝ }
+{
+    let n = count(t);
+    closed(&mut t[0..ATTRIBUTES], n, at);
+    closed(&mut t[ATTRIBUTES..COUNT], n, at);
+    t[COUNT] = (n - 1) as u32;
+}
+
+// Whether a table belongs to an identifier of ten octets.
+fn same_identifier(t: &[u32], esi: &[u8]) -> bool
+    requires { ⌜ Valid (now t) × (length (now esi) ≡ 10) ⌝ }
+    ensures { λ r. ⌜ r ≡ sameOctets (tableIn (now (t .entry)) .esi) (now (esi .entry)) ⌝ }
+{
+    let mut i = 0;
+    while i < 10 {
+        if t[ESI + i] != octet(esi[i]) {
+            return false;
+        }
+        i += 1;
+    }
+    true
 }
 
 // The entry stands in the table, in place of an older one of its address; 8 where its address is new and 64 are present.
-fn admit(t: Table, e: Entry) -> Change
-    requires { ⌜ WellFormed t ⌝ }
-    ensures { λ r. ⌜ r ≡ admitted t e ⌝ }
+fn admit(t: &mut [u32], address: Address, e: Election) -> u8
+    requires { ⌜ Valid (now t) ⌝ }
+    ensures answer { λ r. ⌜ Stored (admitted (tableIn (now (t .entry))) (entryOf address e)) r (now (t .exit)) ⌝ }
+    ensures narrow { λ _. ⌜ e .preference < 65536 ⌝ }
 {
-    let found = find(t, e.address);
+    let word = attributes(e);
+    let found = find(t, address);
     match found {
         Found::At(at) => {
-            let mut replaced = t;
-            replaced.entries[at] = e;
-            Change {
-                number: 0,
-                place: 0,
-                table: replaced,
-            }
+            replace(t, at, address, word);
+            0
         }
         Found::Missing(at) => {
-            let n = t.count;
-            if 64 <= n {
-                return Change {
-                    number: 8,
-                    place: 0,
-                    table: t,
-                };
+            if MAX_ROUTES <= count(t) {
+                return 8;
             }
-            let es = t.entries;
-            let out = opened(es, n, at, e);
-            let more = n + 1;
-            let esi = t.esi;
-            let u = Table {
-                esi: esi,
-                count: more,
-                entries: out,
-            };
-            Change {
-                number: 0,
-                place: 0,
-                table: u,
-            }
+            grow(t, at, address, word);
+            0
         }
-    }
-}
-
-// The entry of an address, as its communities say.
-fn entry_of(address: Address, e: Election) -> Entry
-    ensures { λ r. ⌜ r ≡ entryOf address e ⌝ }
-{
-    Entry {
-        address: address,
-        algorithm: e.algorithm,
-        ac_df: e.ac_df,
-        dp: e.dp,
-        preference: e.preference,
     }
 }
 
 // Announces a route with its communities. The route's own checks come first; then 5 for another identifier, 7 for a list of communities
 // over 256 octets or not a multiple of 8, 8 for a new address where 64 are present. An address that is present has its entry replaced. The
 // place that the route's own checks give is passed on.
-pub fn announce(t: Table, route: &[u8], communities: &[u8]) -> Change
-    requires { ⌜ WellFormed t ⌝ }
-    ensures answer { λ r. ⌜ r ≡ announced t (now (route .entry)) (now (communities .entry)) ⌝ }
-    ensures kept { λ r. ⌜ WellFormed (r .table) ⌝ }
+pub fn announce(t: &mut [u32], route: &[u8], communities: &[u8]) -> Verdict
+    requires { ⌜ Valid (now t) ⌝ }
+    ensures answer { λ r. ⌜ Told (announced (tableIn (now (t .entry))) (now (route .entry)) (now (communities .entry))) (r .number) (r .place) (now (t .exit)) ⌝ }
+    ensures kept { λ _. ⌜ Valid (now (t .exit)) ⌝ }
     ensures fault { λ r. ⌜ Fault (now (route .entry)) (routeNumber (now (route .entry))) (r .place) ⌝ }
 {
     let checked = route::check(route);
     let Checked::Originator(address) = checked else {
         let n = route::number(checked);
         let p = route::place(checked);
-        return Change {
+        return Verdict {
             number: n,
             place: p,
-            table: t,
         };
     };
-    let own = t.esi;
-    if !octets::same(&own, &route[10..20]) {
-        return Change {
+    if !same_identifier(t, &route[10..20]) {
+        return Verdict {
             number: 5,
             place: 0,
-            table: t,
         };
     }
     let list = community::read_list(communities);
     if list.number != 0 {
-        return Change {
+        return Verdict {
             number: 7,
             place: 0,
-            table: t,
         };
     }
     let election = list.election;
-    admit(t, entry_of(address, election))
+    let number = admit(t, address, election);
+    Verdict {
+        number: number,
+        place: 0,
+    }
 }
 
 // Withdraws an address: 6 for address zero, 9 for one that is not present. The freed place is zero and can be filled again.
-pub fn withdraw(t: Table, address: Address) -> Change
-    requires { ⌜ WellFormed t ⌝ }
-    ensures answer { λ r. ⌜ r ≡ withdrawn t address ⌝ }
-    ensures kept { λ r. ⌜ WellFormed (r .table) ⌝ }
+pub fn withdraw(t: &mut [u32], address: Address) -> u8
+    requires { ⌜ Valid (now t) ⌝ }
+    ensures answer { λ r. ⌜ Told (withdrawn (tableIn (now (t .entry))) address) r 0 (now (t .exit)) ⌝ }
+    ensures kept { λ _. ⌜ Valid (now (t .exit)) ⌝ }
 {
     if address::is_zero(address) {
-        return Change {
-            number: 6,
-            place: 0,
-            table: t,
-        };
+        return 6;
     }
     let found = find(t, address);
     let Found::At(at) = found else {
-        return Change {
-            number: 9,
-            place: 0,
-            table: t,
-        };
+        return 9;
     };
-    let es = t.entries;
-    let n = t.count;
-    let out = closed(es, n, at);
-    let fewer = n - 1;
-    let esi = t.esi;
-    let u = Table {
-        esi: esi,
-        count: fewer,
-        entries: out,
-    };
-    Change {
-        number: 0,
-        place: 0,
-        table: u,
-    }
+    shrink(t, at);
+    0
 }

@@ -2,9 +2,7 @@
 // definitions", those without a star), the places of document 02's M-103, the worked examples of RFC 9785, sections 4.1 and 4.3, and the check
 // value of CRC-32.
 use libc::STDOUT_FILENO;
-use table::Change;
-use table::Table;
-ghost use Rattle.table.specs.Table.{WellFormed};
+ghost use Rattle.table.specs.Words.{Valid};
 
 // ---- one line for one value
 
@@ -76,19 +74,32 @@ fn identifier() -> [u8; 10] {
     [0x00, 0x11, 0x22, 0x33, 0x44, 0x55, 0x66, 0x77, 0x88, 0x99]
 }
 
+// A table of one segment.
+struct Table {
+    words: [u32; 139],
+}
+
+// What an announcement answers, and the table after it.
+struct Change {
+    number: u8,
+    place: usize,
+    table: Table,
+}
+
 // An empty table.
 fn empty_table() -> Table
-    ensures { λ r. ⌜ WellFormed r ⌝ }
+    ensures { λ r. ⌜ Valid (r .words) ⌝ }
 {
     let esi = identifier();
     let made = segment::fresh(&esi);
-    made.table
+    let words = made.table;
+    Table { words: words }
 }
 
 // Router n announces a preference and a DP bit under an algorithm.
 fn announce(t: Table, n: u8, algorithm: u8, preference: u16, dp: bool) -> Change
-    requires { ⌜ WellFormed t ⌝ }
-    ensures { λ r. ⌜ WellFormed (r .table) ⌝ }
+    requires { ⌜ Valid (t .words) ⌝ }
+    ensures { λ r. ⌜ Valid (r .table .words) ⌝ }
 {
     let esi = identifier();
     let distinguisher = [0u8; 8];
@@ -96,13 +107,19 @@ fn announce(t: Table, n: u8, algorithm: u8, preference: u16, dp: bool) -> Change
     route::write(&mut octets, &distinguisher, &esi, NETWORK + n as u32);
     let mut community = [0u8; 8];
     community::write(&mut community, algorithm, false, dp, preference);
-    segment::announce(t, &octets, &community)
+    let mut words = t.words;
+    let told = segment::announce(&mut words, &octets, &community);
+    Change {
+        number: told.number,
+        place: told.place,
+        table: Table { words: words },
+    }
 }
 
 // The table after router n announced; a refusal leaves it as it was.
 fn with(t: Table, n: u8, algorithm: u8, preference: u16, dp: bool) -> Table
-    requires { ⌜ WellFormed t ⌝ }
-    ensures { λ r. ⌜ WellFormed r ⌝ }
+    requires { ⌜ Valid (t .words) ⌝ }
+    ensures { λ r. ⌜ Valid (r .words) ⌝ }
 {
     let change = announce(t, n, algorithm, preference, dp);
     change.table
@@ -110,28 +127,31 @@ fn with(t: Table, n: u8, algorithm: u8, preference: u16, dp: bool) -> Table
 
 // The table without router n.
 fn without(t: Table, n: u8) -> Table
-    requires { ⌜ WellFormed t ⌝ }
-    ensures { λ r. ⌜ WellFormed r ⌝ }
+    requires { ⌜ Valid (t .words) ⌝ }
+    ensures { λ r. ⌜ Valid (r .words) ⌝ }
 {
-    let change = segment::withdraw(t, NETWORK + n as u32);
-    change.table
+    let mut words = t.words;
+    segment::withdraw(&mut words, NETWORK + n as u32);
+    Table { words: words }
 }
 
 // The number of the router that is elected for a tag, with an empty ready list; 0 if none is.
 fn elected(t: Table, tag: u32) -> u64
-    requires { ⌜ WellFormed t ⌝ }
+    requires { ⌜ Valid (t .words) ⌝ }
 {
     let none = [0u32; 1];
-    let answer = segment::elect(t, tag, &none[..0]);
+    let words = t.words;
+    let answer = segment::elect(&words, tag, &none[..0]);
     (answer.address % 256) as u64
 }
 
 // The number that an election answers.
 fn refusal(t: Table, tag: u32) -> u64
-    requires { ⌜ WellFormed t ⌝ }
+    requires { ⌜ Valid (t .words) ⌝ }
 {
     let none = [0u32; 1];
-    let answer = segment::elect(t, tag, &none[..0]);
+    let words = t.words;
+    let answer = segment::elect(&words, tag, &none[..0]);
     answer.number as u64
 }
 
@@ -157,7 +177,8 @@ fn tags() {
 fn returning_stays() {
     let mut t = with(empty_table(), 1, 2, 200, true);
     t = with(t, 2, 2, 100, true);
-    let sent = segment::returning(t, 0x0A000003, 2, 150, true);
+    let words = t.words;
+    let sent = segment::returning(&words, 0x0A000003, 2, 150, true);
     show_pair(
         b"returning with (150, 1) to (200, 1) and (100, 1) under 2",
         sent.preference,
@@ -169,7 +190,7 @@ fn returning_stays() {
 
 // A table of the routers 1 to 64.
 fn sixty_four() -> Table
-    ensures { λ r. ⌜ WellFormed r ⌝ }
+    ensures { λ r. ⌜ Valid (r .words) ⌝ }
 {
     let mut t = empty_table();
     let mut n = 1;
@@ -309,7 +330,9 @@ fn route_bits() {
     let mut octets = good_route();
     octets[20] = 31;
     show_route(b"address length 31", &octets, 3, 20);
-    let change = segment::announce(empty_table(), &octets, b"");
+    let t = empty_table();
+    let mut words = t.words;
+    let change = segment::announce(&mut words, &octets, b"");
     show_place(
         b"address length 31, announced",
         change.number as u64,
@@ -329,7 +352,7 @@ const LOWEST: u8 = 3;
 
 // vES1: 500 in PE1, 255 in PE2.
 fn first_segment(algorithm: u8) -> Table
-    ensures { λ r. ⌜ WellFormed r ⌝ }
+    ensures { λ r. ⌜ Valid (r .words) ⌝ }
 {
     let t = with(empty_table(), 1, algorithm, 500, false);
     with(t, 2, algorithm, 255, false)
@@ -337,7 +360,7 @@ fn first_segment(algorithm: u8) -> Table
 
 // vES2: 100 in PE1, 200 in PE2, 300 in PE3.
 fn second_segment(algorithm: u8, dp: bool) -> Table
-    ensures { λ r. ⌜ WellFormed r ⌝ }
+    ensures { λ r. ⌜ Valid (r .words) ⌝ }
 {
     let mut t = with(empty_table(), 1, algorithm, 100, dp);
     t = with(t, 2, algorithm, 200, dp);
@@ -401,7 +424,7 @@ fn maintenance() {
 
 // Two routers with the preference 500; the second one's DP bit is given.
 fn tied(algorithm: u8, dp: bool) -> Table
-    ensures { λ r. ⌜ WellFormed r ⌝ }
+    ensures { λ r. ⌜ Valid (r .words) ⌝ }
 {
     let t = with(empty_table(), 1, algorithm, 500, false);
     with(t, 2, algorithm, 500, dp)
@@ -437,7 +460,8 @@ fn bandwidth() {
     let lost = bandwidth::add_step(500, -400);
     show_number(b"4.1 (f): 500 lowered by 400", lost.preference as u64, 100);
     let vacant = without(first_segment(HIGHEST), 1);
-    let sent = segment::returning(vacant, 0x0A000001, HIGHEST, lost.preference, false);
+    let words = vacant.words;
+    let sent = segment::returning(&words, 0x0A000001, HIGHEST, lost.preference, false);
     show_pair(
         b"4.1 (f): vES1, Highest, PE1 sends",
         sent.preference,
@@ -481,7 +505,8 @@ fn revertive() {
 // Section 4.3: with DP, PE3 comes back with PE2's preference and DP clear, and takes over only when PE2 fails too.
 fn non_revertive() {
     let failed = without(second_segment(HIGHEST, true), 3);
-    let sent = segment::returning(failed, 0x0A000003, HIGHEST, 300, true);
+    let words = failed.words;
+    let sent = segment::returning(&words, 0x0A000003, HIGHEST, 300, true);
     show_pair(
         b"4.3: PE3 back with (300, 1) sends",
         sent.preference,

@@ -1,5 +1,4 @@
 -- `compare` meets its contract: each return is a case of `orderOf`. Assumes nothing.
-use mathlib.Core.Path.{refl}
 use borrow.Author.Tests.{lt-ltb, le-ltb, eq-eqb, ne-eqb}
 use Rattle.address.specs.Address.{addressKey, orderOf}
 use Rattle.address.proofs.compare.Statement.{statement}

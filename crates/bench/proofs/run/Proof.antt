@@ -1,24 +1,28 @@
 -- `run` is safe and ends: the measure is the number of turns that are left. Assumes nothing.
 use Prim.Native.Nat.{_≤_}
 use native.Mathlib.Omega.{arith}
-use mathlib.Core.Path.{_≡_, refl}
+use mathlib.Core.Path.{_≡_, refl, sym}
 use lib.ListN.{length}
-use Rattle.table.specs.Table.{WellFormed}
+use Rattle.table.specs.Words.{Valid}
+use Rattle.table.proofs.Words.{length-valid}
 use borrow.Author.Needs.{needs}
 use Rattle.bench.proofs.run.Statement.{statement}
 use Rattle.bench.proofs.run.Tie as tie
 
 abbrev Inv-loop : tie.InvT-loop
-Inv-loop block₀ out₀ work₀ turns₀ block out work turns = (length block ≡ length block₀) × (length out ≡ length out₀) × (work .filled ≤ length block) × WellFormed (work .bench .table)
+Inv-loop block₀ out₀ t₀ work₀ turns₀ block out t work turns = (length block ≡ length block₀) × (length out ≡ length out₀) × (work .filled ≤ length block) × Valid t
 
 abbrev μ-loop : tie.MeasureT-loop
-μ-loop block₀ out₀ work₀ turns₀ block out work turns = turns
+μ-loop block₀ out₀ t₀ work₀ turns₀ block out t work turns = turns
 
 start-requires : tie.Need-start-requires Inv-loop μ-loop
 start-requires c κs = tt
 
 loop-holds : tie.Need-loop-holds Inv-loop μ-loop
-loop-holds c = (refl, refl, omega arith, c .start .ensures .1 .1)
+loop-holds c = (refl, refl, omega arith, c .before .start .ensures .1 .1)
+
+slice-aggregate-turn : tie.Need-slice-aggregate-turn Inv-loop μ-loop
+slice-aggregate-turn c = sym (length-valid _ (c .before .before .before .loop .inv .3))
 
 turn-requires : tie.Need-turn-requires Inv-loop μ-loop
 turn-requires c κs = search needs
@@ -58,6 +62,7 @@ run-spec =
     μ-loop
     start-requires
     loop-holds
+    slice-aggregate-turn
     turn-requires
     sub-turns
     loop-less

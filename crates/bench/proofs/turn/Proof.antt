@@ -10,7 +10,7 @@ slice-reshare-prefix-process : tie.Need-slice-reshare-prefix-process
 slice-reshare-prefix-process c = search needs
 
 slice-aggregate-process : tie.Need-slice-aggregate-process
-slice-aggregate-process c = sym (length-take-le _ _ (c .before .before .before .pre .0))
+slice-aggregate-process c = sym (length-take-le _ _ (c .before .before .before .before .before .pre .0))
 
 process-requires : tie.Need-process-requires
 process-requires c κs = search needs
@@ -33,28 +33,21 @@ same-length c = search needs
 same-length-2 : tie.Need-same-length-2
 same-length-2 c = search needs
 
+same-length-3 : tie.Need-same-length-3
+same-length-3 c = search needs
+
 returns : tie.Need-returns
 returns c =
     let k = c .before .before .before in
-    let p = k .before .before .before .before .before .before .before in
-    let a = p .before .before .before .before .before .args in
-    (kept-within (a .block .now) (p .process .result .used) (a .filled) (k .keep .ensures .0) (k .keep .ensures .1), p .process .ensures .0 .kept)
+    let p = c .before .before .before .before .before .before .before .before .before .before .before in
+    let a = c .before .before .before .before .before .before .before .before .before .before .before .before .before .before .before .before .before .before .args in
+    (kept-within (a .block .now) (p .process .result .used) (a .filled) (k .keep .ensures .0) (k .keep .ensures .1), p .process .ensures .1 .1)
 
 ended-requires : tie.Need-ended-requires
 ended-requires c κs = search needs
 
-same-length-3 : tie.Need-same-length-3
-same-length-3 c = search needs
-
 same-length-4 : tie.Need-same-length-4
 same-length-4 c = search needs
-
-returns-2 : tie.Need-returns-2
-returns-2 c =
-    let k = c .before .before .before .before .before in
-    let p = k .before .before .before .before .before .before .before in
-    let a = p .before .before .before .before .before .args in
-    (kept-within (a .block .now) (p .process .result .used) (a .filled) (k .keep .ensures .0) (k .keep .ensures .1), p .process .ensures .0 .kept)
 
 same-length-5 : tie.Need-same-length-5
 same-length-5 c = search needs
@@ -62,19 +55,12 @@ same-length-5 c = search needs
 same-length-6 : tie.Need-same-length-6
 same-length-6 c = search needs
 
-returns-3 : tie.Need-returns-3
-returns-3 c =
-    let k = c .before .before .before .before .before .before in
-    let p = k .before .before .before .before .before .before .before in
-    let a = p .before .before .before .before .before .args in
-    (kept-within (a .block .now) (p .process .result .used) (a .filled) (k .keep .ensures .0) (k .keep .ensures .1), p .process .ensures .0 .kept)
-
-read-more-requires : tie.Need-read-more-requires
-read-more-requires c κs =
-    let k = c .before .before .before .before .before .before .before .before in
-    let p = k .before .before .before .before .before .before .before in
-    let a = p .before .before .before .before .before .args in
-    (kept-within (a .block .now) (p .process .result .used) (a .filled) (k .keep .ensures .0) (k .keep .ensures .1), p .process .ensures .0 .kept)
+returns-2 : tie.Need-returns-2
+returns-2 c =
+    let k = c .before .before .before .before .before in
+    let p = c .before .before .before .before .before .before .before .before .before .before .before .before .before in
+    let a = c .before .before .before .before .before .before .before .before .before .before .before .before .before .before .before .before .before .before .before .before .args in
+    (kept-within (a .block .now) (p .process .result .used) (a .filled) (k .keep .ensures .0) (k .keep .ensures .1), p .process .ensures .1 .1)
 
 same-length-7 : tie.Need-same-length-7
 same-length-7 c = search needs
@@ -82,8 +68,34 @@ same-length-7 c = search needs
 same-length-8 : tie.Need-same-length-8
 same-length-8 c = search needs
 
+same-length-9 : tie.Need-same-length-9
+same-length-9 c = search needs
+
+returns-3 : tie.Need-returns-3
+returns-3 c =
+    let k = c .before .before .before .before .before .before in
+    let p = c .before .before .before .before .before .before .before .before .before .before .before .before .before .before in
+    let a = c .before .before .before .before .before .before .before .before .before .before .before .before .before .before .before .before .before .before .before .before .before .args in
+    (kept-within (a .block .now) (p .process .result .used) (a .filled) (k .keep .ensures .0) (k .keep .ensures .1), p .process .ensures .1 .1)
+
+read-more-requires : tie.Need-read-more-requires
+read-more-requires c κs =
+    let k = c .before .before .before .before .before .before .before .before in
+    let p = c .before .before .before .before .before .before .before .before .before .before .before .before .before .before .before .before in
+    let a = c .before .before .before .before .before .before .before .before .before .before .before .before .before .before .before .before .before .before .before .before .before .before .before .args in
+    kept-within (a .block .now) (p .process .result .used) (a .filled) (k .keep .ensures .0) (k .keep .ensures .1)
+
+same-length-10 : tie.Need-same-length-10
+same-length-10 c = search needs
+
+same-length-11 : tie.Need-same-length-11
+same-length-11 c = search needs
+
+same-length-12 : tie.Need-same-length-12
+same-length-12 c = search needs
+
 returns-4 : tie.Need-returns-4
-returns-4 c = search needs
+returns-4 c = (c .before .before .before .before .read-more .ensures, c .before .before .before .before .before .before .before .before .before .before .before .before .before .before .before .before .before .before .before .before .before .process .ensures .1 .1)
 
 pub turn-spec : {M : Type 1} → statement M
 turn-spec =
@@ -98,15 +110,19 @@ turn-spec =
     keep-requires
     same-length
     same-length-2
+    same-length-3
     returns
     ended-requires
-    same-length-3
     same-length-4
-    returns-2
     same-length-5
     same-length-6
-    returns-3
-    read-more-requires
+    returns-2
     same-length-7
     same-length-8
+    same-length-9
+    returns-3
+    read-more-requires
+    same-length-10
+    same-length-11
+    same-length-12
     returns-4)

@@ -1,5 +1,6 @@
 -- `elect` meets its contract: the checks in their order, and then the answer of an accepted tag and list. Assumes nothing.
 use borrow.Author.Needs.{needs}
+use Rattle.table.specs.Words.{tableIn}
 use Rattle.election.proofs.Answered.{promised, elects-10, elects-11, tag-zero, tag-last, tag-right, asked}
 use Rattle.election.proofs.elect.Statement.{statement}
 use Rattle.election.proofs.elect.Tie as tie
@@ -9,8 +10,8 @@ refusal-requires c κs = search needs
 
 returns : tie.Need-returns
 returns c =
-    let start = c .before .before .before in
-    rw (c .refusal .ensures) (promised (start .args .t) (start .pre) _ _ (elects-10 (start .args .t) (start .pre) _ _ (tag-zero _ (c .before .if1 .taken))))
+    let start = c .before .before .before .before in
+    rw (c .refusal .ensures) (promised (tableIn (start .args .t .now)) (start .pre .sound) _ _ (elects-10 (tableIn (start .args .t .now)) (start .pre .sound) _ _ (tag-zero _ (c .before .if1 .taken))))
 
 refusal-requires-2 : tie.Need-refusal-requires-2
 refusal-requires-2 c κs = search needs
@@ -18,8 +19,8 @@ refusal-requires-2 c κs = search needs
 returns-2 : tie.Need-returns-2
 returns-2 c =
     let first = c .before .before in
-    let start = first .before .before in
-    rw (c .refusal2 .ensures) (promised (start .args .t) (start .pre) _ _ (elects-10 (start .args .t) (start .pre) _ _ (tag-last _ (first .if1 .left) (c .before .if2 .taken))))
+    let start = first .before .before .before in
+    rw (c .refusal2 .ensures) (promised (tableIn (start .args .t .now)) (start .pre .sound) _ _ (elects-10 (tableIn (start .args .t .now)) (start .pre .sound) _ _ (tag-last _ (first .if1 .left) (c .before .if2 .taken))))
 
 refusal-requires-3 : tie.Need-refusal-requires-3
 refusal-requires-3 c κs = search needs
@@ -28,8 +29,8 @@ returns-3 : tie.Need-returns-3
 returns-3 c =
     let second = c .before .before in
     let first = second .before in
-    let start = first .before .before in
-    rw (c .refusal3 .ensures) (promised (start .args .t) (start .pre) _ _ (elects-11 (start .args .t) (start .pre) _ _ (tag-right _ (first .if1 .left) (second .if2 .left)) (c .before .if3 .taken)))
+    let start = first .before .before .before in
+    rw (c .refusal3 .ensures) (promised (tableIn (start .args .t .now)) (start .pre .sound) _ _ (elects-11 (tableIn (start .args .t .now)) (start .pre .sound) _ _ (tag-right _ (first .if1 .left) (second .if2 .left)) (c .before .if3 .taken)))
 
 elect-accepted-requires : tie.Need-elect-accepted-requires
 elect-accepted-requires c κs = search needs
@@ -39,9 +40,9 @@ returns-4 c =
     let third = c .before in
     let second = third .before in
     let first = second .before in
-    let start = first .before .before in
-    promised (start .args .t) (start .pre) _ _
-    (asked (start .args .t) (start .pre) _ _ (tag-right _ (first .if1 .left) (second .if2 .left)) (third .if3 .left) (c .elect-accepted .ensures))
+    let start = first .before .before .before in
+    promised (tableIn (start .args .t .now)) (start .pre .sound) _ _
+    (asked (tableIn (start .args .t .now)) (start .pre .sound) _ _ (tag-right _ (first .if1 .left) (second .if2 .left)) (third .if3 .left) (c .elect-accepted .ensures))
 
 pub elect-spec : {M : Type 1} → statement M
 elect-spec =

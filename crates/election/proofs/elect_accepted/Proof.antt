@@ -13,7 +13,7 @@ in-use-requires c κs = search needs
 elect-ready-requires : tie.Need-elect-ready-requires
 elect-ready-requires c κs =
     let used = c .before in
-    let start = used .before .before in
+    let start = used .before .before .before in
     (start .pre, sym (used .in-use .ensures) ∙ ap (λ (b : Bool). usedWith (used .in-use .result .algorithm) b) (c .if1 .taken))
 
 returns : tie.Need-returns
@@ -22,12 +22,12 @@ returns c = search needs
 elect-all-requires : tie.Need-elect-all-requires
 elect-all-requires c κs =
     let used = c .before in
-    let start = used .before .before in
+    let start = used .before .before .before in
     (start .pre, sym (used .in-use .ensures) ∙ ap (λ (b : Bool). usedWith (used .in-use .result .algorithm) b) (c .if1 .left))
 
 returns-2 : tie.Need-returns-2
 returns-2 c =
-    let start = c .before .before .before .before in
+    let start = c .before .before .before .before .before in
     (c .elect-all .ensures .0 (now (start .args .ready)), c .elect-all .ensures .1)
 
 pub elect-accepted-spec : {M : Type 1} → statement M

@@ -7,7 +7,9 @@ use mathlib.Core.Bool.{true}
 use mathlib.Core.Logic.{⊎-elim}
 use denote.Ref.{now}
 use lib.ListN.{length}
-use Rattle.table.specs.Table.{live}
+use Rattle.table.specs.Table.{Table, live}
+use Rattle.table.specs.Words.{tableIn}
+use Rattle.table.proofs.Words.{length-valid, address-word}
 use Rattle.places.specs.Places.{places}
 use Rattle.hrw.specs.Weight.{digestOf}
 use Rattle.election.specs.Election.{inUse, candidateSet}
@@ -24,12 +26,15 @@ refusal-requires c κs = search needs
 
 -- the set is that of the candidates
 abbrev from : tie.After-ready-set → tie.Start
-from j = j .before .before
+from j = j .before .before .before
 
-is-set : (j : tie.After-ready-set) → j .ready-set .result ≡ candidateSet (inUse (live (from j .args .t1))) (now (from j .args .ready)) (live (from j .args .t1))
+abbrev table : tie.Start → Table
+table s = tableIn (s .args .t .now)
+
+is-set : (j : tie.After-ready-set) → j .ready-set .result ≡ candidateSet (inUse (live (table (from j)))) (now (from j .args .ready)) (live (table (from j)))
 is-set j =
     let s = from j in
-    set-with (s .args .t1) (s .pre .0) (s .args .tag) (now (s .args .ready)) (usedWith (s .args .algorithm) true) (j .ready-set .result) (sym (s .pre .1)) refl (j .ready-set .ensures)
+    set-with (table s) (s .pre .0 .sound) (s .args .tag) (now (s .args .ready)) (usedWith (s .args .algorithm) true) (j .ready-set .result) (sym (s .pre .1)) refl (j .ready-set .ensures)
 
 returns : tie.Need-returns
 returns c =
@@ -37,7 +42,7 @@ returns c =
     let j = tested .before in
     let s = from j in
     rw (c .refusal .ensures)
-    (no-candidate (s .args .t1) (s .pre .0) (s .args .tag) (now (s .args .ready)) (usedWith (s .args .algorithm) true) (j .ready-set .result) (sym (s .pre .1)) (is-set j) (tested .if1 .taken))
+    (no-candidate (table s) (s .pre .0 .sound) (s .args .tag) (now (s .args .ready)) (usedWith (s .args .algorithm) true) (j .ready-set .result) (sym (s .pre .1)) (is-set j) (tested .if1 .taken))
 
 count-requires : tie.Need-count-requires
 count-requires c κs = search needs
@@ -47,7 +52,7 @@ some-there c =
     let tested = c .before in
     let j = tested .before in
     let s = from j in
-    candidates-there (s .args .t1) (s .pre .0) (s .args .tag) (now (s .args .ready)) (usedWith (s .args .algorithm) true) (j .ready-set .result) (sym (s .pre .1)) (is-set j) (tested .if1 .left)
+    candidates-there (table s) (s .pre .0 .sound) (s .args .tag) (now (s .args .ready)) (usedWith (s .args .algorithm) true) (j .ready-set .result) (sym (s .pre .1)) (is-set j) (tested .if1 .left)
 
 rem-nth : tie.Need-rem-nth
 rem-nth c = omega (arith, c .before .count .ensures .0, some-there (c .before))
@@ -64,12 +69,12 @@ best-place-requires c κs = search needs
 is-at : (e : tie.Joined2) →
     let j = e .before .before .before in
     let s = from j in
-    e .if2 .at ≡ electedPlace (s .args .algorithm) (s .args .tag) (digestOf (s .args .tag) (s .args .t1 .esi)) (s .args .t1 .entries) (places (j .ready-set .result))
+    e .if2 .at ≡ electedPlace (s .args .algorithm) (s .args .tag) (digestOf (s .args .tag) (table s .esi)) (table s .entries) (places (j .ready-set .result))
 is-at e =
     let counted = e .before in
     let j = counted .before .before in
     let s = from j in
-    let t = s .args .t1 in
+    let t = table s in
     ⊎-elim
     (λ w. elected-nth (s .args .algorithm) (s .args .tag) (t .esi) (t .entries) (places (j .ready-set .result)) (e .if2 .at) (counted .count .result) (w .0 .taken) (counted .count .ensures .0) (w .2 ∙ w .1 .ensures))
     (λ w. elected-best (s .args .algorithm) (s .args .tag) (t .esi) (t .entries) (places (j .ready-set .result)) (e .if2 .at) (w .1 .result) (w .0 .left) (w .1 .ensures) (w .3 ∙ w .2 .ensures))
@@ -80,13 +85,16 @@ at-below e =
     let tested = e .before .before in
     let j = tested .before in
     let s = from j in
-    place-there (s .args .t1) (s .pre .0) (s .args .tag) (now (s .args .ready)) (usedWith (s .args .algorithm) true) (j .ready-set .result) (sym (s .pre .1)) (is-set j) (tested .if1 .left) (e .if2 .at) (is-at e)
+    place-there (table s) (s .pre .0 .sound) (s .args .tag) (now (s .args .ready)) (usedWith (s .args .algorithm) true) (j .ready-set .result) (sym (s .pre .1)) (is-set j) (tested .if1 .left) (e .if2 .at) (is-at e)
 
-mul-e : tie.Need-mul-e
-mul-e c = let h = at-below (c .before) in omega arith
+mul-named : tie.Need-mul-named
+mul-named c = omega (arith, at-below (c .before))
 
-element-copy-out-e : tie.Need-element-copy-out-e
-element-copy-out-e c = at-below (c .before)
+shared-slice-read-named : tie.Need-shared-slice-read-named
+shared-slice-read-named c =
+    let e = c .before .before in
+    let s = from (e .before .before .before) in
+    omega (arith, at-below e, length-valid (s .args .t .now) (s .pre .0))
 
 named-requires : tie.Need-named-requires
 named-requires c κs = search needs
@@ -98,8 +106,8 @@ returns-2 c =
     let tested = counted .before in
     let j = tested .before in
     let s = from j in
-    let told = forwarder (s .args .t1) (s .pre .0) (s .args .tag) (now (s .args .ready)) (usedWith (s .args .algorithm) true) (j .ready-set .result) (sym (s .pre .1)) (is-set j) (tested .if1 .left) (counted .count .result) (e .if2 .at) (counted .count .ensures .0) (counted .count .ensures .1) (is-at e) in
-    rw (c .named .ensures) told
+    let told = forwarder (table s) (s .pre .0 .sound) (s .args .tag) (now (s .args .ready)) (usedWith (s .args .algorithm) true) (j .ready-set .result) (sym (s .pre .1)) (is-set j) (tested .if1 .left) (counted .count .result) (e .if2 .at) (counted .count .ensures .0) (counted .count .ensures .1) (is-at e) in
+    rw (c .named .ensures, address-word (s .args .t .now) (s .pre .0) (e .if2 .at) (at-below e)) told
 
 pub elect-ready-spec : {M : Type 1} → statement M
 elect-ready-spec =
@@ -113,7 +121,7 @@ elect-ready-spec =
     nth-requires
     digest-under-requires
     best-place-requires
-    mul-e
-    element-copy-out-e
+    mul-named
+    shared-slice-read-named
     named-requires
     returns-2)

@@ -1,92 +1,98 @@
--- `in_use` meets its contract: at every turn, the entries from the present place on decide whether all after the first agree with it. Assumes nothing.
-use Prim.Native.Nat.{_≤_, _-_}
+-- `in_use` meets its contract: each return is one case of the definition, by the kind of the first entry's word. Assumes nothing.
+use Prim.Native.Nat.{ℕ, _+_, _-_, _/_, _<_}
 use native.Mathlib.Omega.{arith}
-use mathlib.Core.Path.{_≡_, refl, _∙_}
+use mathlib.Core.Path.{_≡_, ap, sym, _∙_}
+use borrow.Author.Needs.{needs}
 use borrow.Author.Tests.{not-true, not-false}
-use lib.ListN.{drop}
-use Rattle.table.specs.Table.{none, live}
-use Rattle.election.specs.Election.{allCarry}
-use Rattle.election.proofs.Laws.{in-use-empty, in-use-high, in-use-differs, in-use-agreed, carry-other, carry-bit, carry-same, carry-end}
+use lib.ListN.{getD, take, drop}
+use Rattle.table.specs.Words.{tableIn}
+use Rattle.table.proofs.Words.{length-valid, count-short}
+use Rattle.election.specs.Steps.{allOfKind}
+use Rattle.election.proofs.Laws.{attributes, in-use-empty, in-use-high, in-use-differs, in-use-agreed}
 use Rattle.election.proofs.in_use.Statement.{statement}
 use Rattle.election.proofs.in_use.Tie as tie
 
-abbrev Inv-loop : tie.InvT-loop
-Inv-loop t n algorithm ac-df i₀ i = (1 ≤ i) × (i ≤ t .count) × (allCarry algorithm ac-df (drop 1 (live t)) ≡ allCarry algorithm ac-df (drop i (live t)))
+count-requires : tie.Need-count-requires
+count-requires c κs = search needs
 
-abbrev μ-loop : tie.MeasureT-loop
-μ-loop t n algorithm ac-df i₀ i = n - i
+returns : tie.Need-returns
+returns c =
+    let counted = c .before in
+    let start = counted .before .before in
+    in-use-empty (start .args .t .now) (start .pre) (sym (counted .count .ensures) ∙ c .if1 .taken)
 
-returns : tie.Need-returns Inv-loop μ-loop
-returns c = in-use-empty (c .before .args .t1) (c .before .pre) (c .if1 .taken)
+shared-slice-read-kind : tie.Need-shared-slice-read-kind
+shared-slice-read-kind c =
+    let start = c .before .before .before .before in
+    omega (arith, length-valid (start .args .t .now) (start .pre))
 
-element-copy-out-first : tie.Need-element-copy-out-first Inv-loop μ-loop
-element-copy-out-first c = omega arith
+some : (c : tie.Else1) → 0 < tableIn (c .before .before .before .args .t .now) .count
+some c = let n = c .if1 .left in omega (arith, n, c .before .count .ensures)
 
-returns-2 : tie.Need-returns-2 Inv-loop μ-loop
+returns-2 : tie.Need-returns-2
 returns-2 c =
-    let start = c .before .before .before in
-    in-use-high (start .args .t1) (start .pre) (omega arith) none (c .if2 .taken)
+    let tested = c .before .before in
+    let start = tested .before .before .before in
+    in-use-high (start .args .t .now) (start .pre) (some tested) (omega arith)
 
-loop-holds : tie.Need-loop-holds Inv-loop μ-loop
-loop-holds c = (omega arith, omega arith, refl)
+add-end : tie.Need-add-end
+add-end c = search needs
 
-mul-e : tie.Need-mul-e Inv-loop μ-loop
-mul-e c = omega arith
+sub-all-of-kind : tie.Need-sub-all-of-kind
+sub-all-of-kind c = search needs
 
-element-copy-out-e : tie.Need-element-copy-out-e Inv-loop μ-loop
-element-copy-out-e c = omega arith
+part-all-of-kind-start : tie.Need-part-all-of-kind-start
+part-all-of-kind-start c = search needs
 
-returns-3 : tie.Need-returns-3 Inv-loop μ-loop
+part-all-of-kind-end : tie.Need-part-all-of-kind-end
+part-all-of-kind-end c =
+    let counted = c .before .before .before in
+    let start = counted .before .before in
+    omega (arith, length-valid (start .args .t .now) (start .pre), count-short (start .args .t .now) (start .pre), counted .count .ensures)
+
+all-of-kind-requires : tie.Need-all-of-kind-requires
+all-of-kind-requires c κs = search needs
+
+-- the words that are looked at are those of the entries in use
+told : (c : tie.After-all-of-kind) →
+    let start = c .before .before .before .before .before .before .before in
+    c .all-of-kind .result ≡ allOfKind (getD (start .args .t .now) 64 0 / 131072) (attributes (start .args .t .now) (start .pre))
+told c =
+    let counted = c .before .before .before .before .before in
+    let b = counted .before .before .args .t .now in
+    let n : 64 + counted .count .result - 64 ≡ tableIn b .count = omega (arith, counted .count .ensures) in
+    c .all-of-kind .ensures ∙ ap (λ (m : ℕ). allOfKind (getD b 64 0 / 131072) (take m (drop 64 b))) n
+
+returns-3 : tie.Need-returns-3
 returns-3 c =
-    let turn = c .before .before .before .before in
-    let start = turn .before .before .before .before in
-    in-use-differs (start .args .t1) (start .pre) (omega arith) none
-    (turn .loop .inv .2 ∙ carry-other (start .args .t1) (start .pre) _ _ (turn .loop .i) none (omega arith) (c .if3 .taken))
+    let called = c .before in
+    let tested = called .before .before .before .before in
+    let start = tested .before .before .before in
+    in-use-differs (start .args .t .now) (start .pre) (some tested) (sym (told called) ∙ not-true _ (c .if3 .taken))
 
-returns-4 : tie.Need-returns-4 Inv-loop μ-loop
+cast-algorithm : tie.Need-cast-algorithm
+cast-algorithm c = search needs
+
+returns-4 : tie.Need-returns-4
 returns-4 c =
-    let turn = c .before .before .before .before .before .before in
-    let start = turn .before .before .before .before in
-    in-use-differs (start .args .t1) (start .pre) (omega arith) none
-    (turn .loop .inv .2 ∙ carry-bit (start .args .t1) (start .pre) _ _ (turn .loop .i) none (omega arith) (not-true _ (c .if4 .taken)))
-
-add-i : tie.Need-add-i Inv-loop μ-loop
-add-i c = omega arith
-
-loop-less : tie.Need-loop-less Inv-loop μ-loop
-loop-less c = omega arith
-
-loop-again : tie.Need-loop-again Inv-loop μ-loop
-loop-again c =
-    let turn = c .before .before .before .before .before .before in
-    let start = turn .before .before .before .before in (
-      omega arith,
-      omega arith,
-      turn .loop .inv .2 ∙ carry-same (start .args .t1) (start .pre) _ _ (turn .loop .i) none (omega arith) (c .before .before .if3 .left) (not-false _ (c .if4 .left)),
-    )
-
-returns-5 : tie.Need-returns-5 Inv-loop μ-loop
-returns-5 c =
-    let turn = c .before in
-    let start = turn .before .before .before .before in
-    in-use-agreed (start .args .t1) (start .pre) (omega arith) none (omega arith)
-    (turn .loop .inv .2 ∙ carry-end (start .args .t1) (start .pre) _ _ (turn .loop .i) (omega arith))
+    let called = c .before in
+    let tested = called .before .before .before .before in
+    let start = tested .before .before .before in
+    in-use-agreed (start .args .t .now) (start .pre) (some tested) (omega arith) (sym (told called) ∙ not-false _ (c .if3 .left))
 
 pub in-use-spec : {M : Type 1} → statement M
 in-use-spec =
     tie.close
     (tie.spec
-    Inv-loop
-    μ-loop
+    count-requires
     returns
-    element-copy-out-first
+    shared-slice-read-kind
     returns-2
-    loop-holds
-    mul-e
-    element-copy-out-e
+    add-end
+    sub-all-of-kind
+    part-all-of-kind-start
+    part-all-of-kind-end
+    all-of-kind-requires
     returns-3
-    returns-4
-    add-i
-    loop-less
-    loop-again
-    returns-5)
+    cast-algorithm
+    returns-4)

@@ -16,7 +16,7 @@ with-answer-requires : tie.Need-with-answer-requires
 with-answer-requires c κs = search needs
 
 returns : tie.Need-returns
-returns c = c .with-answer .ensures ∙ ap (λ (a : Answer). withAnswer (c .before .before .before .args .sum) a) (c .before .elect .ensures .0)
+returns c = c .with-answer .ensures ∙ ap (λ (a : Answer). withAnswer (c .before .before .before .before .args .sum) a) (c .before .elect .ensures .0)
 
 pub close-spec : {M : Type 1} → statement M
 close-spec = tie.close (tie.spec slice-aggregate-elect elect-requires with-answer-requires returns)

@@ -4,14 +4,16 @@ use Prim.Native.Nat.{_≤_, _-_, _<_, _/_}
 use native.Mathlib.Omega.{arith}
 use borrow.Author.Needs.{needs}
 use mathlib.Core.Path.{_≡_, refl, sym}
-use Rattle.table.specs.Table.{WellFormed}
+use Rattle.table.specs.Words.{tableIn, Valid}
+use Rattle.table.proofs.Words.{length-valid}
+use Rattle.table.proofs.Told.{told-change}
 use Rattle.meter.specs.Meter.{times, begun, announceRound}
 use Rattle.meter.proofs.Laws.{times-none, stands, announces, following-below, over-none, over-some, announce-next, announce-all}
 use Rattle.meter.proofs.meter_announce.Statement.{statement}
 use Rattle.meter.proofs.meter_announce.Tie as tie
 
 abbrev Inv-loop : tie.InvT-loop
-Inv-loop esi runs calls rounds n t₀ sum₀ k₀ i₀ t sum k i = (i ≤ rounds) × (k < n) × WellFormed t × (stands t k sum ≡ times (announceRound calls n) (begun t₀) i)
+Inv-loop esi runs calls rounds n t₀ sum₀ k₀ i₀ t sum k i = (i ≤ rounds) × (k < n) × Valid t × (stands (tableIn t) k sum ≡ times (announceRound calls n) (begun (tableIn t₀)) i)
 
 abbrev μ-loop : tie.MeasureT-loop
 μ-loop esi runs calls rounds n t₀ sum₀ k₀ i₀ t sum k i = rounds - i
@@ -36,6 +38,9 @@ add-mid c = omega arith
 add-end : tie.Need-add-end Inv-loop μ-loop
 add-end c = omega arith
 
+slice-aggregate-announce : tie.Need-slice-aggregate-announce Inv-loop μ-loop
+slice-aggregate-announce c = let at = c .before .before in sym (length-valid (at .loop .t) (at .loop .inv .2))
+
 sub-announce : tie.Need-sub-announce Inv-loop μ-loop
 sub-announce c = omega arith
 
@@ -55,16 +60,16 @@ part-announce-end-2 : tie.Need-part-announce-end-2 Inv-loop μ-loop
 part-announce-end-2 c = omega arith
 
 announce-requires : tie.Need-announce-requires Inv-loop μ-loop
-announce-requires c κs = c .before .before .before .loop .inv .2
+announce-requires c κs = c .before .before .before .before .loop .inv .2
 
 cast-sum : tie.Need-cast-sum Inv-loop μ-loop
 cast-sum c = omega arith
 
 next-requires : tie.Need-next-requires Inv-loop μ-loop
-next-requires c κs = c .before .before .before .before .before .before .loop .inv .1
+next-requires c κs = c .before .before .before .before .before .before .before .loop .inv .1
 
 add-i : tie.Need-add-i Inv-loop μ-loop
-add-i c = omega arith
+add-i c = let s = c .before .before .before .before .before .before .before .before .before .before .before .before .before .before in omega (arith, c .before .before .before .before .before .before .before .loop-test .taken, s .fits .rounds .fits)
 
 loop-less : tie.Need-loop-less Inv-loop μ-loop
 loop-less c = omega arith
@@ -72,28 +77,32 @@ loop-less c = omega arith
 loop-again : tie.Need-loop-again Inv-loop μ-loop
 loop-again c =
     let an = c .before .before .before in
-    let at = an .before .before .before .before in
-    let s = at .before .before .before .before .before .before in
+    let inside = c .before .before .before .before .before .before .before in
+    let at = c .before .before .before .before .before .before .before .before in
+    let s = c .before .before .before .before .before .before .before .before .before .before .before .before .before .before in
     let calls = s .args .calls .now in
     let next = c .next .ensures in
-    let below = following-below (at .loop .k) (length calls / 33) (at .loop .inv .1) in (
-      omega arith,
-      rw next below,
+    let more = following-below (at .loop .k) (length calls / 33) (at .loop .inv .1) in (
+      omega (arith, inside .loop-test .taken),
+      rw next more,
       an .announce .ensures .1 .0,
-      announce-next calls (length calls / 33) (at .loop .k) (c .next .result) (at .loop .sum) (at .loop .i) (at .loop .t) _ next _ (announces calls (at .loop .k) _ _ (an .announce .ensures .0)) (at .loop .inv .3),
+      announce-next calls (length calls / 33) (at .loop .k) (c .next .result) (at .loop .sum) (at .loop .i) (tableIn (at .loop .t)) _ next _ (announces calls (at .loop .k) _ _ (told-change _ _ _ _ (an .announce .ensures .0))) (at .loop .inv .3),
     )
 
+slice-aggregate-close : tie.Need-slice-aggregate-close Inv-loop μ-loop
+slice-aggregate-close c = let at = c .before .before in sym (length-valid (at .loop .t) (at .loop .inv .2))
+
 close-requires : tie.Need-close-requires Inv-loop μ-loop
-close-requires c κs = c .before .loop .inv .2
+close-requires c κs = c .before .before .loop .inv .2
 
 returns-2 : tie.Need-returns-2 Inv-loop μ-loop
 returns-2 c =
-    let at = c .before .before in
-    let s = at .before .before .before .before .before .before in
+    let at = c .before .before .before in
+    let s = c .before .before .before .before .before .before .before .before .before in
     let some : length (s .args .calls .now) / 33 ≡ 0 → ⊥ = λ z. omega (arith, at .loop .inv .1) in
     let all : at .loop .i ≡ s .args .rounds = omega arith in
     announce-all (s .args .esi .now) (s .args .runs .now) (s .args .calls .now) (s .args .rounds) _ _ (at .before .loaded .ensures .0)
-    (over-some _ _ _ (s .args .rounds) (at .loop .i) _ (at .loop .sum) (at .loop .k) (at .loop .t) some all (at .loop .inv .3) (c .close .ensures))
+    (over-some _ _ _ (s .args .rounds) (at .loop .i) _ (at .loop .sum) (at .loop .k) (tableIn (at .loop .t)) some all (at .loop .inv .3) (c .close .ensures))
 
 pub meter-announce-spec : {M : Type 1} → statement M
 meter-announce-spec =
@@ -107,6 +116,7 @@ meter-announce-spec =
     mul-at
     add-mid
     add-end
+    slice-aggregate-announce
     sub-announce
     part-announce-start
     part-announce-end
@@ -119,5 +129,6 @@ meter-announce-spec =
     add-i
     loop-less
     loop-again
+    slice-aggregate-close
     close-requires
     returns-2)

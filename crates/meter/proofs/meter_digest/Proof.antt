@@ -1,10 +1,11 @@
 -- `meter_digest` meets its contract: after some turns the sum is that of as many rounds. Assumes nothing.
-use Rattle.meter.proofs.Laws.{owner, digest-none, digest-next}
 use Prim.Native.Nat.{_≤_, _-_}
 use native.Mathlib.Omega.{arith}
 use borrow.Author.Needs.{needs}
-use mathlib.Core.Path.{_≡_, ap₂, _∙_}
+use mathlib.Core.Path.{_≡_, ap₂, sym, _∙_}
+use Rattle.table.proofs.Words.{length-valid}
 use Rattle.meter.specs.Meter.{digestSum}
+use Rattle.meter.proofs.Laws.{owner, digest-none, digest-next}
 use Rattle.meter.proofs.meter_digest.Statement.{statement}
 use Rattle.meter.proofs.meter_digest.Tie as tie
 
@@ -16,6 +17,12 @@ abbrev μ-loop : tie.MeasureT-loop
 
 fresh-requires : tie.Need-fresh-requires Inv-loop μ-loop
 fresh-requires c κs = search needs
+
+slice-aggregate-identifier : tie.Need-slice-aggregate-identifier Inv-loop μ-loop
+slice-aggregate-identifier c = let made = c .before .before in sym (length-valid (made .fresh .result .table) (made .fresh .ensures .1 .0))
+
+identifier-requires : tie.Need-identifier-requires Inv-loop μ-loop
+identifier-requires c κs = c .before .before .fresh .ensures .1 .0
 
 loop-holds : tie.Need-loop-holds Inv-loop μ-loop
 loop-holds c = (omega arith, digest-none _)
@@ -38,8 +45,9 @@ loop-again c = (omega arith, digest-next _ _ _ _ (c .before .before .loop .inv .
 returns : tie.Need-returns Inv-loop μ-loop
 returns c =
     let at = c .before in
-    let own = owner _ _ (at .before .before .before .fresh .ensures .0) in
-    let e : at .loop .tag ≡ at .before .before .before .before .before .args .rounds = omega arith in
+    let s = c .before .before .before .before .before .before .before in
+    let own = c .before .before .identifier .ensures ∙ owner (s .args .esi .now) _ (c .before .before .before .before .before .fresh .ensures .0 .2) in
+    let e : at .loop .tag ≡ s .args .rounds = omega arith in
     at .loop .inv .1 ∙ ap₂ digestSum own e
 
 pub meter-digest-spec : {M : Type 1} → statement M
@@ -49,6 +57,8 @@ meter-digest-spec =
     Inv-loop
     μ-loop
     fresh-requires
+    slice-aggregate-identifier
+    identifier-requires
     loop-holds
     digest-requires
     cast-sum

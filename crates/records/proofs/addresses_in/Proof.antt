@@ -1,7 +1,7 @@
 -- `addresses_in` meets its contract. The loop's invariant: the first i addresses stand, and zeros after them. Assumes nothing.
 use Prim.Native.Nat.{ℕ, _≤_, _<_, _-_, _/_}
 use native.Mathlib.Omega.{arith}
-use mathlib.Core.Path.{_≡_, refl, sym, _∙_, ap}
+use mathlib.Core.Path.{_≡_, refl, _∙_, ap}
 use mathlib.Core.List.{_++_}
 use lib.ListN.{length, take, drop, replicate}
 use borrow.Author.Needs.{needs}

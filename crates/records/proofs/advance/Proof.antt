@@ -1,6 +1,7 @@
 -- `advance` meets its contract: too little room and an ended run are reasons to stop. Assumes nothing.
 use native.Mathlib.Omega.{arith}
 use mathlib.Core.Path.{sym, _∙_}
+use Rattle.records.specs.Records.{stateIn}
 use Rattle.records.proofs.Blocks.{stopped-ended, stopped-room, advanced-none}
 use borrow.Author.Needs.{needs}
 use Rattle.records.proofs.advance.Statement.{statement}
@@ -11,28 +12,32 @@ sub-room c = search needs
 
 returns : tie.Need-returns
 returns c =
-    let s = c .before .before .before in
+    let s = c .before .before .before .before in
     let a = s .args in
-    advanced-none (a .b) (a .input .now) (a .used) (a .out .now) (a .wrote) (s .pre .0) (s .pre .1) (s .pre .2) (stopped-room (a .b) _ _ (omega (arith, c .if1 .taken)))
+    (advanced-none (stateIn (a .phase) (a .t .now)) (a .input .now) (a .used) (a .out .now) (a .wrote) (s .pre .0) (a .phase) (s .pre .1) (stopped-room _ _ _ (omega (arith, c .if1 .taken))), s .pre .2)
 
 ended-requires : tie.Need-ended-requires
 ended-requires c κs = search needs
 
 returns-2 : tie.Need-returns-2
 returns-2 c =
-    let s = c .before .before .before .before .before in
-    let a = s .args in
-    advanced-none (a .b) (a .input .now) (a .used) (a .out .now) (a .wrote) (s .pre .0) (s .pre .1) (s .pre .2)
-    (stopped-ended (a .b) _ _ (sym (c .before .ended .ensures) ∙ c .if2 .taken))
+    let s = c .before .before .before .before .before .before in
+    let a = s .args in (
+      advanced-none (stateIn (a .phase) (a .t .now)) (a .input .now) (a .used) (a .out .now) (a .wrote) (s .pre .0) (a .phase) (s .pre .1)
+          (stopped-ended _ _ _ (sym (c .before .ended .ensures) ∙ c .if2 .taken)),
+      s .pre .2,
+    )
 
 take-record-requires : tie.Need-take-record-requires
 take-record-requires c κs =
-    let e = c .before .before in
-    let s = e .before .before .before .before in
-    (s .pre .0, omega arith, sym (e .ended .ensures) ∙ c .before .if2 .left, s .pre .2)
+    let s = c .before .before .before .before .before .before .before .before in
+    (s .pre .0, omega arith, sym (c .before .before .before .ended .ensures) ∙ c .before .before .if2 .left, s .pre .2)
 
 same-length : tie.Need-same-length
 same-length c = search needs
+
+same-length-2 : tie.Need-same-length-2
+same-length-2 c = search needs
 
 returns-3 : tie.Need-returns-3
 returns-3 c = search needs
@@ -40,4 +45,12 @@ returns-3 c = search needs
 pub advance-spec : {M : Type 1} → statement M
 advance-spec =
     tie.close
-    (tie.spec sub-room returns ended-requires returns-2 take-record-requires same-length returns-3)
+    (tie.spec
+    sub-room
+    returns
+    ended-requires
+    returns-2
+    take-record-requires
+    same-length
+    same-length-2
+    returns-3)

@@ -1,13 +1,14 @@
 -- `announce` meets its contract: the record is cut after its route, and the table's answer is told. Assumes nothing.
 use mathlib.Core.Path.{sym}
 use lib.Seq.{length-take-le}
+use Rattle.table.specs.Words.{tableIn}
 use Rattle.records.proofs.Turns.{stepped-announce}
 use borrow.Author.Needs.{needs}
 use Rattle.records.proofs.announce.Statement.{statement}
 use Rattle.records.proofs.announce.Tie as tie
 
 slice-aggregate-announce : tie.Need-slice-aggregate-announce
-slice-aggregate-announce c = sym (length-take-le 25 (c .before .before .before .args .payload .now) (c .before .before .before .pre .1))
+slice-aggregate-announce c = sym (length-take-le 25 (c .before .before .before .before .before .args .payload .now) (c .before .before .before .before .before .pre .1))
 
 sub-announce : tie.Need-sub-announce
 sub-announce c = search needs
@@ -27,12 +28,14 @@ put-read-requires c κs = search needs
 same-length : tie.Need-same-length
 same-length c = search needs
 
+same-length-2 : tie.Need-same-length-2
+same-length-2 c = search needs
+
 returns : tie.Need-returns
 returns c =
-    let pl = c .before .before .before in
-    let an = pl .before .before in
-    let s = an .before .before .before .before .before in
-    stepped-announce (s .args .t) (s .args .payload .now) _ (an .announce .ensures .0) (an .announce .ensures .1 .0) (pl .put-read .ensures)
+    let an = c .before .before .before .before .before .before .announce .ensures in
+    let a = c .before .before .before .before .before .before .before .before .before .before .before .before .before .args in
+    stepped-announce (tableIn (a .t .now)) (a .payload .now) (an .0) (an .1 .0) (c .before .before .put-read .ensures)
 
 pub announce-spec : {M : Type 1} → statement M
 announce-spec =
@@ -45,4 +48,5 @@ announce-spec =
     announce-requires
     put-read-requires
     same-length
+    same-length-2
     returns)

@@ -1,5 +1,6 @@
 -- `carry_out` meets its contract: the turn of a record, by phase. Assumes nothing.
 use native.Mathlib.Omega.{arith}
+use Rattle.table.specs.Words.{tableIn}
 use Rattle.records.proofs.Turns.{stepped-as, turn-begin, turn-none, turn-later, stepped-ended}
 use borrow.Author.Needs.{needs}
 use Rattle.records.proofs.carry_out.Statement.{statement}
@@ -16,9 +17,9 @@ same-length c = search needs
 
 returns : tie.Need-returns
 returns c =
-    let told = c .before .before .before .before .before in
-    let a = told .before .before .before .before .before .args in
-    stepped-as (c .before .before .refuse .ensures) (turn-none (a .b) (a .kind) (a .payload .now) (told .enum-told .given .1) (c .before .before .before .before .if1 .taken))
+    let s = c .before .before .before .before .before .before .before .before .before .before in
+    let a = s .args in
+    stepped-as (c .before .before .refuse .ensures (a .t .now) (s .pre .2)) (turn-none (a .phase) (tableIn (a .t .now)) (a .kind) (a .payload .now) (c .before .before .before .before .before .enum-told .given .1) (c .before .before .before .before .if1 .taken))
 
 begin-requires : tie.Need-begin-requires
 begin-requires c κs = search needs
@@ -35,26 +36,30 @@ enum-told-3 c = search needs
 same-length-2 : tie.Need-same-length-2
 same-length-2 c = search needs
 
-returns-2 : tie.Need-returns-2
-returns-2 c =
-    let told = c .before .before .before .before .before in
-    let a = told .before .before .before .before .before .args in
-    stepped-as (c .before .before .begin .ensures) (turn-begin (a .b) (a .kind) (a .payload .now) (told .enum-told .given .1) (c .before .before .before .before .if1 .left))
-
 same-length-3 : tie.Need-same-length-3
 same-length-3 c = search needs
 
+returns-2 : tie.Need-returns-2
+returns-2 c =
+    let a = c .before .before .before .before .before .before .before .before .before .before .before .before .before .args in
+    stepped-as (c .before .before .before .before .begin .ensures) (turn-begin (a .phase) (tableIn (a .t .now)) (a .kind) (a .payload .now) (c .before .before .before .before .before .before .before .before .enum-told .given .1) (c .before .before .before .before .before .before .before .if1 .left))
+
+same-length-4 : tie.Need-same-length-4
+same-length-4 c = search needs
+
+same-length-5 : tie.Need-same-length-5
+same-length-5 c = search needs
+
 returns-3 : tie.Need-returns-3
 returns-3 c =
-    let told = c .before .before .before .before in
-    let a = told .before .before .before .before .before .args in
-    stepped-as (c .before .before .later .ensures) (turn-later (a .b) (a .kind) (a .payload .now) (told .enum-told2 .given .1))
+    let a = c .before .before .before .before .before .before .before .before .before .before .before .before .args in
+    stepped-as (c .before .before .before .before .later .ensures) (turn-later (a .phase) (tableIn (a .t .now)) (a .kind) (a .payload .now) (c .before .before .before .before .before .before .before .enum-told2 .given .1))
 
 returns-4 : tie.Need-returns-4
 returns-4 c =
     let s = c .before .before .before .before .before in
     let a = s .args in
-    stepped-ended (a .b) (a .kind) (a .payload .now) (a .out .now) (a .at) (c .enum-told3 .given .1) (omega arith) (s .pre .2)
+    stepped-ended (a .phase) (a .t .now) (a .kind) (a .payload .now) (a .out .now) (a .at) (c .enum-told3 .given .1) (omega arith) (s .pre .2)
 
 pub carry-out-spec : {M : Type 1} → statement M
 carry-out-spec =
@@ -69,7 +74,9 @@ carry-out-spec =
     later-requires
     enum-told-3
     same-length-2
-    returns-2
     same-length-3
+    returns-2
+    same-length-4
+    same-length-5
     returns-3
     returns-4)

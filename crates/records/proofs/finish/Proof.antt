@@ -14,13 +14,13 @@ returns : tie.Need-returns
 returns c =
     let e = c .before in
     let a = e .before .before .before .args in
-    (put-as (put-none (a .out .now)) (sym (end-ended (a .b) (a .rest .now) (sym (e .ended .ensures) ∙ c .if1 .taken))), end-stopped (a .b) (a .rest .now))
+    (put-as (put-none (a .out .now)) (sym (end-ended (a .phase) (a .rest .now) (sym (e .ended .ensures) ∙ c .if1 .taken))), λ t. end-stopped (record { phase = a .phase; table = t }) (a .rest .now))
 
 returns-2 : tie.Need-returns-2
 returns-2 c =
     let e = c .before .before in
     let a = e .before .before .before .args in
-    (put-as (put-none (a .out .now)) (sym (end-empty (a .b) (a .rest .now) (c .if2 .taken))), end-stopped (a .b) (a .rest .now))
+    (put-as (put-none (a .out .now)) (sym (end-empty (a .phase) (a .rest .now) (c .if2 .taken))), λ t. end-stopped (record { phase = a .phase; table = t }) (a .rest .now))
 
 slice-aggregate-put-run : tie.Need-slice-aggregate-put-run
 slice-aggregate-put-run c = search needs
@@ -33,11 +33,9 @@ same-length c = search needs
 
 returns-3 : tie.Need-returns-3
 returns-3 c =
-    let p = c .before .before in
-    let t = p .before .before .before in
-    let e = t .before .before in
+    let e = c .before .before .before .before .before .before .before in
     let a = e .before .before .before .args in
-    (put-as (p .put-run .ensures) (sym (end-left (a .b) (a .rest .now) (sym (e .ended .ensures) ∙ t .before .if1 .left) (t .if2 .left))), end-stopped (a .b) (a .rest .now))
+    (put-as (c .before .before .put-run .ensures) (sym (end-left (a .phase) (a .rest .now) (sym (e .ended .ensures) ∙ c .before .before .before .before .before .before .if1 .left) (c .before .before .before .before .before .if2 .left))), λ t. end-stopped (record { phase = a .phase; table = t }) (a .rest .now))
 
 pub finish-spec : {M : Type 1} → statement M
 finish-spec =

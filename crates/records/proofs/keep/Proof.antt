@@ -1,10 +1,9 @@
 -- `keep` meets its contract. The loop's invariant: the first i of the kept octets stand at the front, before the octets that were there. Assumes nothing.
 use Prim.Native.Nat.{_+_, _-_, _≤_}
 use native.Mathlib.Omega.{arith}
-use mathlib.Core.Path.{_≡_, refl, sym, ap, _∙_, subst}
+use mathlib.Core.Path.{_≡_, refl, sym, ap, _∙_}
 use mathlib.Core.List.{_++_}
-use lib.ListN.{length, take, drop, getD, set, length-set}
-use Rattle.octets.proofs.Laws.{stored-front}
+use lib.ListN.{length, take, drop, length-set}
 use Rattle.records.specs.Steps.{kept}
 use Rattle.records.proofs.Blocks.{length-kept, kept-none, kept-next, kept-all, stored-none}
 use borrow.Author.Needs.{needs}

@@ -42,7 +42,7 @@ array-share-prefix-ready c = search needs
 
 slice-aggregate-elect : tie.Need-slice-aggregate-elect
 slice-aggregate-elect c =
-    let p = c .before .before .before .before .before .before .before .before .before .before .args .payload .now in
+    let p = c .before .before .before .before .before .before .before .before .before .before .before .args .payload .now in
     sym (ap length (c .before .addresses-in .ensures) ∙ length-words (take (length p - 4) (drop 4 p)))
 
 elect-requires : tie.Need-elect-requires
@@ -60,9 +60,9 @@ returns c =
     let el = pa .before .before in
     let ad = el .before .before in
     let u = ad .before .before in
-    let s = u .before .before .before .before .before .before .before in
+    let s = u .before .before .before .before .before .before .before .before in
     let p = s .args .payload .now in
-    stepped-query (s .args .t) p (el .elect .result) (u .u32-of .result) _
+    stepped-query (s .args .t .now) p (el .elect .result) (u .u32-of .result) _
     (u .u32-of .ensures ∙ ap numberOf (four-front p (s .pre .1)))
     (ad .addresses-in .ensures ∙ ap wordsIn (take-of-all (length p - 4) (drop 4 p) (length-drop 4 p)))
     (el .elect .ensures .0)

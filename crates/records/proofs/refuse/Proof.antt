@@ -18,8 +18,7 @@ same-length c = search needs
 returns : tie.Need-returns
 returns c =
     let call = c .before .before in
-    let s = call .before .before .before .before in
-    record { put = written (call .put-run .ensures) (omega (arith, s .pre .0)); next = refl; kept = s .pre .1 }
+    λ w k. record { put = written (call .put-run .ensures) (omega (arith, c .before .before .before .before .before .before .pre)); next = refl; kept = k }
 
 pub refuse-spec : {M : Type 1} → statement M
 refuse-spec = tie.close (tie.spec slice-aggregate-put-run put-run-requires same-length returns)

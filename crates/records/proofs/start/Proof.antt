@@ -12,7 +12,7 @@ fresh-requires c κs = search needs
 
 returns : tie.Need-returns
 returns c =
-    let e = started (c .before .fresh .result) (c .before .fresh .ensures .0) in
+    let e = started _ (c .before .fresh .ensures .0) in
     (e, (run-first e, c .before .fresh .ensures .1))
 
 pub start-spec : {M : Type 1} → statement M

@@ -1,7 +1,7 @@
 -- `withdraw` meets its contract: the address is read, and the table's answer is told. Assumes nothing.
 use mathlib.Core.Path.{ap, _∙_}
 use Rattle.octets.specs.Octets.{numberOf}
-use Rattle.table.specs.Table.{withdrawn}
+use Rattle.table.specs.Words.{tableIn}
 use Rattle.records.proofs.Turns.{four, stepped-withdraw}
 use borrow.Author.Needs.{needs}
 use Rattle.records.proofs.withdraw.Statement.{statement}
@@ -31,14 +31,16 @@ put-line-requires c κs = search needs
 same-length : tie.Need-same-length
 same-length c = search needs
 
+same-length-2 : tie.Need-same-length-2
+same-length-2 c = search needs
+
 returns : tie.Need-returns
 returns c =
-    let pl = c .before .before .before in
-    let w = pl .before .before in
-    let u = w .before in
-    let s = u .before .before .before .before .before .before .before in
+    let w = c .before .before .before .before .before .before in
+    let u = c .before .before .before .before .before .before .before .before in
+    let s = c .before .before .before .before .before .before .before .before .before .before .before .before .before .before .before .before in
     let p = s .args .payload .now in
-    stepped-withdraw (s .args .t) p _ (w .withdraw .ensures .0 ∙ ap (withdrawn (s .args .t)) (u .u32-of .ensures ∙ ap numberOf (four p (s .pre .1)))) (w .withdraw .ensures .1) (pl .put-line .ensures)
+    stepped-withdraw (tableIn (s .args .t .now)) p (u .u32-of .ensures ∙ ap numberOf (four p (s .pre .1))) (w .withdraw .ensures .0) (w .withdraw .ensures .1) (c .before .before .put-line .ensures)
 
 pub withdraw-spec : {M : Type 1} → statement M
 withdraw-spec =
@@ -52,4 +54,5 @@ withdraw-spec =
     withdraw-requires
     put-line-requires
     same-length
+    same-length-2
     returns)

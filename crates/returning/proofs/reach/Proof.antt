@@ -1,5 +1,4 @@
 -- `reach` meets its contract: each return is one direction. Assumes nothing.
-use borrow.Author.Needs.{needs}
 use borrow.Author.Tests.{eq-eqb, ne-eqb}
 use Rattle.returning.specs.Returning.{reaches}
 use Rattle.returning.proofs.reach.Statement.{statement}

@@ -1,8 +1,8 @@
 -- `fresh` meets its contract: the table's own promises, and demand 3 of every list of calls. Assumes nothing.
-use borrow.Author.Needs.{needs}
 use denote.Ref.{now}
 use Rattle.segment.proofs.Demand3.{demand3}
 use Rattle.segment.proofs.Values.{starred-right}
+use borrow.Author.Needs.{needs}
 use Rattle.segment.proofs.fresh.Statement.{statement}
 use Rattle.segment.proofs.fresh.Tie as tie
 

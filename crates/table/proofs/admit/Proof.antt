@@ -1,12 +1,16 @@
 -- `admit` meets its contract: `find` says which case of `admitted` holds. Assumes nothing.
-use Rattle.table.proofs.Laws.{unused}
-use borrow.Author.Needs.{needs}
 use native.Mathlib.Omega.{arith}
 use mathlib.Core.Path.{sym, _∙_}
-use Rattle.table.specs.Table.{keyOf}
-use Rattle.table.proofs.Calls.{at-count, missing-count, admitted-at, admitted-new, admitted-full}
+use Rattle.address.specs.Address.{addressKey}
+use Rattle.table.specs.Words.{tableIn}
+use Rattle.table.proofs.Calls.{at-count, missing-count}
+use Rattle.table.proofs.Told.{told-at, told-new, told-full}
+use borrow.Author.Needs.{needs}
 use Rattle.table.proofs.admit.Statement.{statement}
 use Rattle.table.proofs.admit.Tie as tie
+
+attributes-requires : tie.Need-attributes-requires
+attributes-requires c κs = search needs
 
 find-requires : tie.Need-find-requires
 find-requires c κs = search needs
@@ -14,68 +18,68 @@ find-requires c κs = search needs
 enum-known-found : tie.Need-enum-known-found
 enum-known-found c = search needs
 
-mul-e : tie.Need-mul-e
-mul-e c =
-    let told = c .before in
-    let called = told .before .before in
-    let start = called .before in
-    let h = at-count (start .args .t) (start .pre) (keyOf (start .args .e)) _ (sym (called .find .ensures) ∙ told .found .given .1) in
-    omega arith
-
-element-set-from-e : tie.Need-element-set-from-e
-element-set-from-e c =
-    let told = c .before in
-    let called = told .before .before in
-    let start = called .before in
-    let h = at-count (start .args .t) (start .pre) (keyOf (start .args .e)) _ (sym (called .find .ensures) ∙ told .found .given .1) in
-    omega arith
+replace-requires : tie.Need-replace-requires
+replace-requires c κs =
+    let start = c .before .before .before .before .before .before .before .before in
+    let b = start .args .t .now in
+    (start .pre, at-count (tableIn b) (start .pre .sound) (addressKey (start .args .address)) _ (sym (c .before .before .before .before .find .ensures) ∙ c .before .before .found .given .1))
 
 enum-known-found-2 : tie.Need-enum-known-found-2
 enum-known-found-2 c = search needs
 
+count-requires : tie.Need-count-requires
+count-requires c κs = search needs
+
+same-length : tie.Need-same-length
+same-length c = search needs
+
 returns : tie.Need-returns
 returns c =
-    let told = c .before .before in
-    let called = told .before .before in
-    let start = called .before in
-    admitted-full (start .args .t) (start .pre) (start .args .e) _ (sym (called .find .ensures) ∙ told .found2 .given .1) (omega arith)
+    let start = c .before .before .before .before .before .before .before .before .before .before in
+    let a = start .args in
+    let p = c .before .before .before .before .before .before .before .before .attributes .ensures in
+    (told-full (a .t .now) (start .pre) (a .address) _ _ (a .e) p (sym (c .before .before .before .before .before .before .find .ensures) ∙ c .before .before .before .before .found2 .given .1) (rw (← c .before .count .ensures) (omega arith)), p .1)
 
-opened-requires : tie.Need-opened-requires
-opened-requires c κs =
-    let told = c .before .before .before in
-    let called = told .before .before in
-    let start = called .before in
-    let h = missing-count (start .args .t) (start .pre) (keyOf (start .args .e)) _ (sym (called .find .ensures) ∙ told .found2 .given .1) in
-    (omega arith, omega arith, unused (start .args .t) (start .pre))
+grow-requires : tie.Need-grow-requires
+grow-requires c κs =
+    let start = c .before .before .before .before .before .before .before .before .before .before .before in
+    let b = start .args .t .now in
+    (start .pre, missing-count (tableIn b) (start .pre .sound) (addressKey (start .args .address)) _ (sym (c .before .before .before .before .before .before .before .find .ensures) ∙ c .before .before .before .before .before .found2 .given .1), rw (← c .before .before .count .ensures) (omega arith))
 
-add-more : tie.Need-add-more
-add-more c = search needs
+same-length-2 : tie.Need-same-length-2
+same-length-2 c = search needs
 
 returns-2 : tie.Need-returns-2
 returns-2 c =
-    let told = c .before in
-    let called = told .before .before in
-    let start = called .before in
-    admitted-at (start .args .t) (start .pre) (start .args .e) _ (sym (called .find .ensures) ∙ told .found .given .1)
+    let start = c .before .before .before .before .before .before .before .before .before .before .before in
+    let a = start .args in
+    let p = c .before .before .before .before .before .before .before .before .before .attributes .ensures in
+    (told-at (a .t .now) (start .pre) (a .address) _ _ (a .e) p (sym (c .before .before .before .before .before .before .before .find .ensures) ∙ c .before .before .before .before .before .found .given .1) _ (c .before .before .replace .ensures), p .1)
+
+same-length-3 : tie.Need-same-length-3
+same-length-3 c = search needs
 
 returns-3 : tie.Need-returns-3
 returns-3 c =
-    let told = c .before .before .before .before .before in
-    let called = told .before .before in
-    let start = called .before in
-    admitted-new (start .args .t) (start .pre) (start .args .e) _ (sym (called .find .ensures) ∙ told .found2 .given .1) (omega arith) (c .before .opened .ensures)
+    let start = c .before .before .before .before .before .before .before .before .before .before .before .before .before .before in
+    let a = start .args in
+    let p = c .before .before .before .before .before .before .before .before .before .before .before .before .attributes .ensures in
+    (told-new (a .t .now) (start .pre) (a .address) _ _ (a .e) p (sym (c .before .before .before .before .before .before .before .before .before .before .find .ensures) ∙ c .before .before .before .before .before .before .before .before .found2 .given .1) (rw (← c .before .before .before .before .before .count .ensures) (omega arith)) _ (c .before .before .grow .ensures), p .1)
 
 pub admit-spec : {M : Type 1} → statement M
 admit-spec =
     tie.close
     (tie.spec
+    attributes-requires
     find-requires
     enum-known-found
-    mul-e
-    element-set-from-e
+    replace-requires
     enum-known-found-2
+    count-requires
+    same-length
     returns
-    opened-requires
-    add-more
+    grow-requires
+    same-length-2
     returns-2
+    same-length-3
     returns-3)

@@ -1,13 +1,15 @@
 -- `announce` meets its contract: the checks in their order, and then what `admit` answers. Assumes nothing.
-use borrow.Author.Needs.{needs}
 use native.Mathlib.Omega.{arith}
-use mathlib.Core.Path.{_≡_, sym, _∙_}
+use mathlib.Core.Path.{_≡_, refl, sym, _∙_}
 use borrow.Author.Tests.{not-true, not-false}
 use denote.Ref.{now}
 use lib.ListN.{length}
 use Rattle.route.specs.Route.{routeEsi}
 use Rattle.route.proofs.Laws.{route-length, told-originator}
-use Rattle.table.proofs.Calls.{announced-refused, differs, unread, done, announced-all}
+use Rattle.table.specs.Words.{tableIn}
+use Rattle.table.proofs.Calls as calls
+use Rattle.table.proofs.Told.{announced-refused, announced-admitted, admitted-place, list-says, length-part}
+use borrow.Author.Needs.{needs}
 use Rattle.table.proofs.announce.Statement.{statement}
 use Rattle.table.proofs.announce.Tie as tie
 
@@ -28,89 +30,82 @@ place-requires c κs = search needs
 
 returns : tie.Need-returns
 returns c =
-    let numbered = c .before in
-    let called = numbered .before .before .before in
-    let start = called .before .before .before in
-    let t = start .args .t in
+    let start = c .before .before .before .before .before .before .before .before in
+    let b = start .args .t .now in
     let r = now (start .args .route) in
     let l = now (start .args .communities) in
-    announced-all t (start .pre) r l
-    (announced-refused t (start .pre) r l _ _ _ _ _ (called .check .ensures .0) (numbered .before .enum-told .given .1) (numbered .number .ensures) (c .place .ensures))
+    announced-refused b (start .pre) r l _ _
+    (calls.announced-refused (tableIn b) (start .pre .sound) r l _ _ _ _ _ (c .before .before .before .before .check .ensures .0) (c .before .before .enum-told .given .1) (c .before .number .ensures) (c .place .ensures))
 
-slice-aggregate-same : tie.Need-slice-aggregate-same
-slice-aggregate-same c = search needs
+sub-same-identifier : tie.Need-sub-same-identifier
+sub-same-identifier c = search needs
 
-sub-same : tie.Need-sub-same
-sub-same c = search needs
+part-same-identifier-start : tie.Need-part-same-identifier-start
+part-same-identifier-start c = search needs
 
-part-same-start : tie.Need-part-same-start
-part-same-start c = search needs
-
-part-same-end : tie.Need-part-same-end
-part-same-end c =
-    let told = c .before .before .before in
-    let called = told .before .before in
-    let r = now (called .before .before .before .args .route) in
-    let l : length r ≡ 25 = route-length r (told-originator r _ (sym (called .check .ensures .0) ∙ told .checked .given .1) .0) in
+part-same-identifier-end : tie.Need-part-same-identifier-end
+part-same-identifier-end c =
+    let r = now (c .before .before .before .before .before .before .before .before .args .route) in
+    let l : length r ≡ 25 = route-length r (told-originator r _ (sym (c .before .before .before .before .check .ensures .0) ∙ c .before .before .checked .given .1) .0) in
     omega arith
 
-same-requires : tie.Need-same-requires
-same-requires c κs = search needs
+same-identifier-requires : tie.Need-same-identifier-requires
+same-identifier-requires c κs =
+    let start = c .before .before .before .before .before .before .before .before .before in
+    let r = now (start .args .route) in
+    let l : length r ≡ 25 = route-length r (told-originator r _ (sym (c .before .before .before .before .before .check .ensures .0) ∙ c .before .before .before .checked .given .1) .0) in
+    (start .pre, length-part r l)
+
+same-length : tie.Need-same-length
+same-length c = search needs
 
 returns-2 : tie.Need-returns-2
 unfolding routeEsi
 returns-2 c =
-    let tested = c in
-    let same = tested .before in
-    let told = same .before .before .before .before .before in
-    let called = told .before .before in
-    let start = called .before .before .before in
-    let t = start .args .t in
+    let start = c .before .before .before .before .before .before .before .before .before .before .before in
+    let b = start .args .t .now in
     let r = now (start .args .route) in
     let l = now (start .args .communities) in
-    let checked = sym (called .check .ensures .0) ∙ told .checked .given .1 in
-    announced-all t (start .pre) r l
-    (differs t (start .pre) r l _ checked (sym (same .same .ensures) ∙ not-true _ (c .if1 .taken)))
+    let checked = sym (c .before .before .before .before .before .before .before .check .ensures .0) ∙ c .before .before .before .before .before .checked .given .1 in
+    announced-refused b (start .pre) r l 5 0
+    (calls.differs (tableIn b) (start .pre .sound) r l _ checked (sym (c .before .same-identifier .ensures) ∙ not-true _ (c .if1 .taken)))
 
 read-list-requires : tie.Need-read-list-requires
 read-list-requires c κs = search needs
 
+same-length-2 : tie.Need-same-length-2
+same-length-2 c = search needs
+
 returns-3 : tie.Need-returns-3
 unfolding routeEsi
 returns-3 c =
-    let tested = c .before .before .before in
-    let same = tested .before in
-    let told = same .before .before .before .before .before in
-    let called = told .before .before in
-    let start = called .before .before .before in
-    let t = start .args .t in
+    let start = c .before .before .before .before .before .before .before .before .before .before .before .before .before .before in
+    let b = start .args .t .now in
     let r = now (start .args .route) in
     let l = now (start .args .communities) in
-    let checked = sym (called .check .ensures .0) ∙ told .checked .given .1 in
-    announced-all t (start .pre) r l
-    (unread t (start .pre) r l _ checked _ (sym (same .same .ensures) ∙ not-false _ (tested .if1 .left)) (c .before .before .read-list .ensures) (c .if2 .taken))
-
-entry-of-requires : tie.Need-entry-of-requires
-entry-of-requires c κs = search needs
+    let checked = sym (c .before .before .before .before .before .before .before .before .before .before .check .ensures .0) ∙ c .before .before .before .before .before .before .before .before .checked .given .1 in
+    announced-refused b (start .pre) r l 7 0
+    (calls.unread (tableIn b) (start .pre .sound) r l _ checked _ (sym (c .before .before .before .before .same-identifier .ensures) ∙ not-false _ (c .before .before .before .if1 .left)) (c .before .before .read-list .ensures) (c .if2 .taken))
 
 admit-requires : tie.Need-admit-requires
 admit-requires c κs = search needs
 
+same-length-3 : tie.Need-same-length-3
+same-length-3 c = search needs
+
 returns-4 : tie.Need-returns-4
 unfolding routeEsi
 returns-4 c =
-    let tested = c .before .before .before .before .before .before in
-    let same = tested .before in
-    let told = same .before .before .before .before .before in
-    let called = told .before .before in
-    let start = called .before .before .before in
-    let t = start .args .t in
+    let start = c .before .before .before .before .before .before .before .before .before .before .before .before .before .before .before .before .before .before .before in
+    let b = start .args .t .now in
     let r = now (start .args .route) in
     let l = now (start .args .communities) in
-    let checked = sym (called .check .ensures .0) ∙ told .checked .given .1 in
-    announced-all t (start .pre) r l
-    (done t (start .pre) r l _ checked _ _ _ (sym (same .same .ensures) ∙ not-false _ (tested .if1 .left)) (c .before .before .before .before .before .read-list .ensures)
-    (c .before .before .before .if2 .left) (c .before .entry-of .ensures) (c .admit .ensures))
+    let checked = sym (c .before .before .before .before .before .before .before .before .before .before .before .before .before .before .before .check .ensures .0) ∙ c .before .before .before .before .before .before .before .before .before .before .before .before .before .checked .given .1 in
+    let same = sym (c .before .before .before .before .before .before .before .before .before .same-identifier .ensures) ∙ not-false _ (c .before .before .before .before .before .before .before .before .if1 .left) in
+    let list = c .before .before .before .before .before .before .before .read-list .ensures in
+    let zero = c .before .before .before .before .before .if2 .left in
+    let told = c .before .before .admit .ensures in
+    announced-admitted b (start .pre) r l _ _ _ _ (calls.done (tableIn b) (start .pre .sound) r l _ checked _ _ _ same list zero refl refl) (admitted-place (tableIn b) _) (list-says l _ list zero) (told .0) (told .1)
 
 pub announce-spec : {M : Type 1} → statement M
 announce-spec =
@@ -122,14 +117,15 @@ announce-spec =
     number-requires
     place-requires
     returns
-    slice-aggregate-same
-    sub-same
-    part-same-start
-    part-same-end
-    same-requires
+    sub-same-identifier
+    part-same-identifier-start
+    part-same-identifier-end
+    same-identifier-requires
+    same-length
     returns-2
     read-list-requires
+    same-length-2
     returns-3
-    entry-of-requires
     admit-requires
+    same-length-3
     returns-4)

@@ -1,43 +1,41 @@
--- `closed` meets its contract. The list without the present place is the same at every turn; the places from n on stay unused.
--- Assumes nothing.
-use Rattle.table.specs.Table.{none}
-use Prim.Native.Nat.{ℕ, _+_, _≤_, _-_}
+-- `closed` meets its contract. The words without the one at the present place are the same at every turn; those from n on stay zero. Assumes nothing.
+use Prim.Native.Nat.{ℕ, _≤_, _-_, _+_}
 use native.Mathlib.Omega.{arith}
 use mathlib.Core.Path.{_≡_, refl, ap, _∙_}
+use mathlib.Core.List.{[]}
 use lib.ListN.{length, drop, length-set}
 use lib.Seq.{drop-set-lt}
-use Rattle.keyed.specs.Keyed.{cut}
+use Rattle.keyed.specs.Keyed.{padded, cut}
 use Rattle.keyed.proofs.Keyed.{cut-next, cut-stop}
-use Rattle.table.specs.Steps.{UnusedFrom}
 use Rattle.table.proofs.closed.Statement.{statement}
 use Rattle.table.proofs.closed.Tie as tie
 
 abbrev Inv-loop : tie.InvT-loop
-Inv-loop n at last out₀ i₀ out i = (i ≤ last) × (length out ≡ 64) × (cut out i ≡ cut out₀ at) × UnusedFrom n out
+Inv-loop s₀ n at last i₀ s i = (at ≤ i) × (i ≤ last) × (length s ≡ length s₀) × (cut s i ≡ cut s₀ at) × (drop n s ≡ padded (length s₀ - n) 0 [])
 
 abbrev μ-loop : tie.MeasureT-loop
-μ-loop n at last out₀ i₀ out i = last - i
+μ-loop s₀ n at last i₀ s i = last - i
 
 sub-last : tie.Need-sub-last Inv-loop μ-loop
 sub-last c = omega arith
 
 loop-holds : tie.Need-loop-holds Inv-loop μ-loop
-loop-holds c = (omega arith, omega arith, refl, c .pre .2)
+loop-holds c = (omega arith, omega arith, refl, refl, c .pre .2)
 
-add-x : tie.Need-add-x Inv-loop μ-loop
-add-x c = omega arith
+add-s : tie.Need-add-s Inv-loop μ-loop
+add-s c = omega arith
 
-mul-x : tie.Need-mul-x Inv-loop μ-loop
-mul-x c = omega arith
+mul-s : tie.Need-mul-s Inv-loop μ-loop
+mul-s c = omega arith
 
-array-copy-out-x : tie.Need-array-copy-out-x Inv-loop μ-loop
-array-copy-out-x c = omega arith
+slice-read-s : tie.Need-slice-read-s Inv-loop μ-loop
+slice-read-s c = omega arith
 
-mul-out : tie.Need-mul-out Inv-loop μ-loop
-mul-out c = omega arith
+mul-s-2 : tie.Need-mul-s-2 Inv-loop μ-loop
+mul-s-2 c = omega arith
 
-array-set-from-out : tie.Need-array-set-from-out Inv-loop μ-loop
-array-set-from-out c = omega arith
+slice-write-s : tie.Need-slice-write-s Inv-loop μ-loop
+slice-write-s c = omega arith
 
 add-i : tie.Need-add-i Inv-loop μ-loop
 add-i c = omega arith
@@ -47,23 +45,28 @@ loop-less c = omega arith
 
 loop-again : tie.Need-loop-again Inv-loop μ-loop
 loop-again c =
-    let now = c .before .before .loop in
-    let n = c .before .before .before .args .n in
-    (omega arith, simp length-set (now .inv .1), cut-next (now .out) (now .i) _ (omega arith) ∙ now .inv .2, drop-set-lt n (now .out) (now .i) _ (omega arith) ∙ now .inv .3)
+    let turn = c .before .before in
+    let v = turn .loop .inv in
+    let n = turn .before .args .n in
+    (omega arith, omega arith, length-set (turn .loop .s) _ _ ∙ v .2, cut-next (turn .loop .s) (turn .loop .i) 0 (omega arith) ∙ v .3, drop-set-lt n (turn .loop .s) (turn .loop .i) _ (omega arith) ∙ v .4)
 
-mul-out-2 : tie.Need-mul-out-2 Inv-loop μ-loop
-mul-out-2 c = omega arith
+mul-s-3 : tie.Need-mul-s-3 Inv-loop μ-loop
+mul-s-3 c = omega arith
 
-array-set-from-out-2 : tie.Need-array-set-from-out-2 Inv-loop μ-loop
-array-set-from-out-2 c = omega arith
+slice-write-s-2 : tie.Need-slice-write-s-2 Inv-loop μ-loop
+slice-write-s-2 c = omega arith
+
+same-length : tie.Need-same-length Inv-loop μ-loop
+same-length c = let turn = c .before in length-set (turn .loop .s) _ _ ∙ turn .loop .inv .2
 
 returns : tie.Need-returns Inv-loop μ-loop
 returns c =
-    let now = c .before .loop in
-    let n = c .before .before .args .n in
-    let i : now .i ≡ n - 1 = omega arith in
-    let last : n - 1 + 1 ≡ n = omega arith in
-    cut-stop (now .out) (n - 1) (64 - n) none (omega arith) (ap (λ (k : ℕ). drop k (now .out)) last ∙ now .inv .3) ∙ rw (← now .inv .2, i)
+    let turn = c .before in
+    let a = turn .before .args in
+    let v = turn .loop .inv in
+    let i : turn .loop .i ≡ a .n - 1 = omega arith in
+    let last : a .n - 1 + 1 ≡ a .n = omega arith in
+    cut-stop (turn .loop .s) (a .n - 1) _ 0 (omega arith) (ap (λ (k : ℕ). drop k (turn .loop .s)) last ∙ v .4) ∙ rw (← v .3, i)
 
 pub closed-spec : {M : Type 1} → statement M
 closed-spec =
@@ -73,14 +76,15 @@ closed-spec =
     μ-loop
     sub-last
     loop-holds
-    add-x
-    mul-x
-    array-copy-out-x
-    mul-out
-    array-set-from-out
+    add-s
+    mul-s
+    slice-read-s
+    mul-s-2
+    slice-write-s
     add-i
     loop-less
     loop-again
-    mul-out-2
-    array-set-from-out-2
+    mul-s-3
+    slice-write-s-2
+    same-length
     returns)

@@ -1,9 +1,9 @@
--- `fresh` meets its contract: a repeat of the unused entry is the padding of no entries. Assumes nothing.
-use borrow.Author.Needs.{needs}
-use mathlib.Core.Path.{sym, _∙_}
+-- `fresh` meets its contract: the identifier is written into zeros. Assumes nothing.
+use mathlib.Core.Path.{refl, sym, _∙_}
 use denote.Ref.{now}
-use Rattle.keyed.specs.Keyed.{padded}
-use Rattle.table.proofs.Calls.{fresh-reserved, fresh-accepted}
+use Rattle.esi.proofs.Laws.{length-not-reserved}
+use Rattle.table.proofs.Told.{fresh-reserved, fresh-accepted}
+use borrow.Author.Needs.{needs}
 use Rattle.table.proofs.fresh.Statement.{statement}
 use Rattle.table.proofs.fresh.Tie as tie
 
@@ -11,23 +11,25 @@ is-reserved-requires : tie.Need-is-reserved-requires
 is-reserved-requires c κs = search needs
 
 returns : tie.Need-returns
-unfolding padded
 returns c = fresh-reserved (now (c .before .before .before .args .esi)) (sym (c .before .is-reserved .ensures) ∙ c .if1 .taken)
 
-slice-aggregate-store : tie.Need-slice-aggregate-store
-slice-aggregate-store c = search needs
+slice-aggregate-put-identifier : tie.Need-slice-aggregate-put-identifier
+slice-aggregate-put-identifier c = search needs
 
-store-requires : tie.Need-store-requires
-store-requires c κs = search needs
+put-identifier-requires : tie.Need-put-identifier-requires
+put-identifier-requires c κs = (refl, length-not-reserved (now (c .before .before .before .before .args .esi)) (sym (c .before .before .is-reserved .ensures) ∙ c .before .if1 .left))
 
 returns-2 : tie.Need-returns-2
-unfolding padded
 returns-2 c =
-    let stored = c .before in
-    let tested = stored .before .before in
-    fresh-accepted (now (tested .before .before .before .args .esi)) _ (sym (tested .before .is-reserved .ensures) ∙ tested .if1 .left) (stored .store .ensures)
+    let put = c .before .put-identifier .ensures in
+    fresh-accepted (now (c .before .before .before .before .before .before .args .esi)) _ (sym (c .before .before .before .before .is-reserved .ensures) ∙ c .before .before .before .if1 .left) (put .1) (put .0)
 
 pub fresh-spec : {M : Type 1} → statement M
 fresh-spec =
     tie.close
-    (tie.spec is-reserved-requires returns slice-aggregate-store store-requires returns-2)
+    (tie.spec
+    is-reserved-requires
+    returns
+    slice-aggregate-put-identifier
+    put-identifier-requires
+    returns-2)

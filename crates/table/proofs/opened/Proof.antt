@@ -1,62 +1,63 @@
--- `opened` meets its contract. What is carried, put in at the present place, gives the same list at every turn; the places from n on stay unused.
--- Assumes nothing.
-use Rattle.table.specs.Table.{none}
-use Prim.Native.Nat.{_≤_, _-_}
+-- `opened` meets its contract. With the new word at the place that is free at a turn, the words are those of the answer for that place. Assumes nothing.
+use Prim.Native.Nat.{_≤_}
 use native.Mathlib.Omega.{arith}
-use mathlib.Core.Path.{_≡_, refl, _∙_, sym}
-use lib.ListN.{length, length-set}
-use lib.Seq.{drop-set-lt}
+use mathlib.Core.Path.{_≡_, refl, sym, _∙_}
+use lib.ListN.{length, set, take, length-set}
 use Rattle.keyed.specs.Keyed.{spliced}
-use Rattle.keyed.proofs.Keyed.{splice-next, splice-stop}
-use Rattle.table.specs.Steps.{UnusedFrom}
+use Rattle.keyed.proofs.Keyed.{splice-stop, splice-back}
 use Rattle.table.proofs.opened.Statement.{statement}
 use Rattle.table.proofs.opened.Tie as tie
 
 abbrev Inv-loop : tie.InvT-loop
-Inv-loop n at out₀ carry₀ i₀ out carry i = (i ≤ n) × (length out ≡ 64) × (spliced out i carry ≡ spliced out₀ at carry₀) × UnusedFrom n out
+Inv-loop s₀ n at x i₀ s i = (at ≤ i) × (i ≤ n) × (length s ≡ length s₀) × (set s i x ≡ take (length s₀) (spliced s₀ i x))
 
 abbrev μ-loop : tie.MeasureT-loop
-μ-loop n at out₀ carry₀ i₀ out carry i = n - i
+μ-loop s₀ n at x i₀ s i = i
 
 loop-holds : tie.Need-loop-holds Inv-loop μ-loop
-loop-holds c = (omega arith, omega arith, refl, c .pre .2)
+loop-holds c =
+    let a = c .args in
+    (c .pre .0, omega arith, refl, sym (splice-stop (a .s .now) (a .n) _ (a .x) 0 (c .pre .1) (c .pre .2)))
 
-mul-x : tie.Need-mul-x Inv-loop μ-loop
-mul-x c = omega arith
+sub-from : tie.Need-sub-from Inv-loop μ-loop
+sub-from c = omega arith
 
-array-copy-out-x : tie.Need-array-copy-out-x Inv-loop μ-loop
-array-copy-out-x c = omega arith
+mul-s : tie.Need-mul-s Inv-loop μ-loop
+mul-s c = omega arith
 
-mul-out : tie.Need-mul-out Inv-loop μ-loop
-mul-out c = omega arith
+slice-read-s : tie.Need-slice-read-s Inv-loop μ-loop
+slice-read-s c = omega arith
 
-array-set-from-out : tie.Need-array-set-from-out Inv-loop μ-loop
-array-set-from-out c = omega arith
+mul-s-2 : tie.Need-mul-s-2 Inv-loop μ-loop
+mul-s-2 c = omega arith
 
-add-i : tie.Need-add-i Inv-loop μ-loop
-add-i c = omega arith
+slice-write-s : tie.Need-slice-write-s Inv-loop μ-loop
+slice-write-s c = omega arith
 
 loop-less : tie.Need-loop-less Inv-loop μ-loop
 loop-less c = omega arith
 
 loop-again : tie.Need-loop-again Inv-loop μ-loop
 loop-again c =
-    let now = c .before .before .loop in
-    let n = c .before .before .before .args .n in
-    (omega arith, simp length-set (now .inv .1), splice-next (now .out) (now .i) _ _ (omega arith) ∙ now .inv .2, drop-set-lt n (now .out) (now .i) _ (omega arith) ∙ now .inv .3)
+    let turn = c .before .before in
+    let a = turn .before .args in
+    let v = turn .loop .inv in
+    (omega arith, omega arith, length-set (turn .loop .s) _ _ ∙ v .2, splice-back (turn .loop .s) (a .s .now) (turn .loop .i) (a .x) 0 (v .2) (omega arith) (omega arith) (v .3))
 
-mul-out-2 : tie.Need-mul-out-2 Inv-loop μ-loop
-mul-out-2 c = omega arith
+mul-s-3 : tie.Need-mul-s-3 Inv-loop μ-loop
+mul-s-3 c = omega arith
 
-array-set-from-out-2 : tie.Need-array-set-from-out-2 Inv-loop μ-loop
-array-set-from-out-2 c = omega arith
+slice-write-s-2 : tie.Need-slice-write-s-2 Inv-loop μ-loop
+slice-write-s-2 c = omega arith
+
+same-length : tie.Need-same-length Inv-loop μ-loop
+same-length c = let turn = c .before in length-set (turn .loop .s) _ _ ∙ turn .loop .inv .2
 
 returns : tie.Need-returns Inv-loop μ-loop
 returns c =
-    let now = c .before .loop in
-    let n = c .before .before .args .n in
-    let i : now .i ≡ n = omega arith in
-    sym (splice-stop (now .out) n (64 - n) (now .carry) none (omega arith) (now .inv .3)) ∙ rw (now .inv .1, ← now .inv .2, i)
+    let turn = c .before in
+    let e : turn .loop .i ≡ turn .before .args .at = omega arith in
+    rw (← e) (turn .loop .inv .3)
 
 pub opened-spec : {M : Type 1} → statement M
 opened-spec =
@@ -65,13 +66,14 @@ opened-spec =
     Inv-loop
     μ-loop
     loop-holds
-    mul-x
-    array-copy-out-x
-    mul-out
-    array-set-from-out
-    add-i
+    sub-from
+    mul-s
+    slice-read-s
+    mul-s-2
+    slice-write-s
     loop-less
     loop-again
-    mul-out-2
-    array-set-from-out-2
+    mul-s-3
+    slice-write-s-2
+    same-length
     returns)

@@ -1,12 +1,12 @@
 -- `sixty_four` meets its contract: every announcement leaves a table that the calls made. Assumes nothing.
 use Prim.Native.Nat.{_-_}
 use native.Mathlib.Omega.{arith}
-use Rattle.table.specs.Table.{WellFormed}
+use Rattle.table.specs.Words.{Valid}
 use Rattle.vectors.proofs.sixty_four.Statement.{statement}
 use Rattle.vectors.proofs.sixty_four.Tie as tie
 
 abbrev Inv-loop : tie.InvT-loop
-Inv-loop t₀ n₀ t n = WellFormed t
+Inv-loop t₀ n₀ t n = Valid (t .words)
 
 abbrev μ-loop : tie.MeasureT-loop
 μ-loop t₀ n₀ t n = 65 - n
