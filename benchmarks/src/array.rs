@@ -1,103 +1,102 @@
-//! Baseline (a): a sorted array, updated in place. A route is one word of 64 bits with its address on top, so that words order as addresses do; unused
-//! places are all ones, so that a search needs no count and halves the range six times without a branch. Shifts are one block move. Loops over the routes
-//! are without branches, for the compiler to vectorize. Nothing that an election derives is kept between calls.
+//! Baseline (a): sorted arrays, updated in place. A route is an address and a word of attributes, each in an array of its own, so that a loop over one
+//! of them takes several routes at once. Unused addresses are all ones, so that a search needs no count and halves the range six times without a
+//! branch. Shifts are block moves. Loops over the routes are without branches, for the compiler to vectorize. An address of the ready list is looked for
+//! where a hint says, and else searched for. Nothing that an election derives is kept between calls.
 
 use crate::answer::{Answer, Segment, Sent};
 use crate::octets::{self, Election, MAX_READY, MAX_ROUTES};
 
-const UNUSED: Word = Word(u64::MAX);
-
-/// From the top: address 32 bits, preference 16, DP 1, seven zeros, AC-DF 1, two zeros, algorithm 5.
-#[derive(Clone, Copy, PartialEq, Eq, PartialOrd, Ord)]
-struct Word(u64);
+const UNUSED: u32 = u32::MAX;
+const CLASSES: usize = 1024;
 
 pub struct Table {
     esi: [u8; 10],
     count: usize,
-    words: [Word; MAX_ROUTES],
+    addresses: [u32; MAX_ROUTES],
+    attributes: [u32; MAX_ROUTES],
 }
 
-impl Word {
-    const KIND: u64 = 0xFF;
-    const AC_DF: u64 = 0x80;
-    const ALGORITHM: u64 = 0x1F;
-    const DP: u64 = 0x8000;
+/// From the top: algorithm, AC-DF 1 bit, preference 16, DP 1.
+const KIND_SHIFT: u32 = 17;
+const LOW: u32 = 0x1_FFFF;
+const DP: u32 = 1;
 
-    fn new(address: u32, election: Election) -> Word {
-        Word(
-            u64::from(address) << 32
-                | u64::from(election.preference) << 16
-                | u64::from(election.dp) << 15
-                | u64::from(election.ac_df) << 7
-                | u64::from(election.algorithm),
-        )
-    }
+fn attributes_of(election: Election) -> u32 {
+    u32::from(election.algorithm) << (KIND_SHIFT + 1)
+        | u32::from(election.ac_df) << KIND_SHIFT
+        | u32::from(election.preference) << 1
+        | u32::from(election.dp)
+}
 
-    fn address(self) -> u32 {
-        (self.0 >> 32) as u32
-    }
+fn algorithm_in(attributes: u32) -> u8 {
+    (attributes >> (KIND_SHIFT + 1)) as u8
+}
 
-    fn preference(self) -> u16 {
-        (self.0 >> 16) as u16
-    }
+fn preference_in(attributes: u32) -> u16 {
+    (attributes >> 1) as u16
+}
 
-    fn dp(self) -> bool {
-        self.0 & Word::DP != 0
-    }
+/// Preference and DP bit; greater is better under algorithm 2.
+fn higher(attributes: u32) -> u32 {
+    attributes & LOW
+}
 
-    fn algorithm(self) -> u8 {
-        (self.0 & Word::ALGORITHM) as u8
-    }
-
-    /// Preference and DP bit; greater is better under algorithm 2.
-    fn higher(self) -> u32 {
-        self.0 as u32 >> 15
-    }
-
-    /// Greater is better under algorithm 3.
-    fn lower(self) -> u32 {
-        (self.0 as u32 ^ 0xFFFF_0000) >> 15
-    }
+/// Greater is better under algorithm 3.
+fn lower(attributes: u32) -> u32 {
+    (attributes & LOW) ^ (LOW ^ DP)
 }
 
 impl Table {
-    fn live(&self) -> &[Word] {
-        &self.words[..self.count.min(MAX_ROUTES)]
+    fn live(&self) -> (&[u32], &[u32]) {
+        let count = self.count.min(MAX_ROUTES);
+        (&self.addresses[..count], &self.attributes[..count])
     }
 
     /// Where the address stands, or the place at which it would.
     fn find(&self, address: u32) -> Result<usize, usize> {
-        let lowest = Word(u64::from(address) << 32);
         let mut place = 0;
         for step in [32, 16, 8, 4, 2, 1] {
-            place += step * usize::from(self.words[(place + step - 1) % MAX_ROUTES] < lowest);
+            place += step * usize::from(self.addresses[(place + step - 1) % MAX_ROUTES] < address);
         }
-        let word = self.words[place % MAX_ROUTES];
-        if word.address() == address && word != UNUSED {
+        place += usize::from(self.addresses[place % MAX_ROUTES] < address);
+        if place < self.count && self.addresses[place % MAX_ROUTES] == address {
             return Ok(place);
         }
-        Err(place + usize::from(word < lowest))
+        Err(place)
     }
 
     /// The set of the places whose address is on the ready list.
     fn ready_set(&self, ready: &[u32]) -> u64 {
-        let places = self.live().iter().enumerate();
-        places.fold(0, |set, (place, word)| {
-            set | u64::from(ready.contains(&word.address())) << place
-        })
+        let (addresses, _) = self.live();
+        let mut hints = [0u8; CLASSES];
+        for (place, address) in addresses.iter().enumerate() {
+            hints[*address as usize % CLASSES] = place as u8;
+        }
+        let mut set = 0;
+        for address in ready {
+            let hint = usize::from(hints[*address as usize % CLASSES]);
+            if addresses.get(hint) == Some(address) {
+                set |= 1 << hint;
+            } else if let Ok(place) = self.find(*address) {
+                set |= 1 << place;
+            }
+        }
+        set
     }
 }
 
 /// The algorithm and the AC-DF bit in use.
-fn in_use(live: &[Word]) -> (u8, bool) {
-    let Some(first) = live.first() else {
+fn in_use(attributes: &[u32]) -> (u8, bool) {
+    let Some(first) = attributes.first() else {
         return (0, false);
     };
-    let differing = live.iter().fold(0, |bits, word| bits | (word.0 ^ first.0));
-    if differing & Word::KIND != 0 || first.algorithm() > 3 {
+    let differing = attributes
+        .iter()
+        .fold(0, |bits, word| bits | (word ^ first));
+    if differing > LOW || algorithm_in(*first) > 3 {
         return (0, false);
     }
-    (first.algorithm(), first.0 & Word::AC_DF != 0)
+    (algorithm_in(*first), first >> KIND_SHIFT & 1 != 0)
 }
 
 /// The place in the set at k, counted from 0.
@@ -110,30 +109,34 @@ fn nth(set: u64, k: u32) -> usize {
 }
 
 /// The first place of the set with the greatest score.
-fn best(live: &[Word], set: u64, full: bool, score: impl Fn(Word) -> u32) -> usize {
-    // the score above the place counted from the end, so that of equal scores the first place is greatest
-    let key = |place: usize| u64::from(score(live[place])) << 6 | (63 - place) as u64;
-    let mut top = 0;
-    if full {
-        for place in 0..live.len() {
-            top = top.max(key(place));
+fn best(words: &[u32], set: u64, full: bool, score: impl Fn(u32) -> u32) -> usize {
+    let mut at = set.trailing_zeros() as usize;
+    let mut top = score(words[at]);
+    let mut keep = |place: usize| {
+        let next = score(words[place]);
+        if next > top {
+            top = next;
+            at = place;
         }
+    };
+    if full {
+        (1..words.len()).for_each(keep);
     } else {
-        let mut left = set;
+        let mut left = set & (set - 1);
         while left != 0 {
-            top = top.max(key(left.trailing_zeros() as usize));
+            keep(left.trailing_zeros() as usize);
             left &= left - 1;
         }
     }
-    63 - (top & 63) as usize
+    at
 }
 
-/// The first place of the set with the greatest score, for scores of 17 bits: the keys fit 32 bits.
-fn best_narrow(live: &[Word], set: u64, full: bool, score: impl Fn(Word) -> u32) -> usize {
+/// The same for scores of 17 bits: over all places, the score above the place counted from the end fits 32 bits, and the greatest is taken.
+fn best_narrow(words: &[u32], set: u64, full: bool, score: impl Fn(u32) -> u32) -> usize {
     if !full {
-        return best(live, set, full, score);
+        return best(words, set, full, score);
     }
-    let keys = live.iter().enumerate();
+    let keys = words.iter().enumerate();
     let top = keys
         .map(|(place, word)| (score(*word) << 6 | (63 - place as u32)) as i32)
         .max();
@@ -153,7 +156,8 @@ impl Segment for Table {
         let mut table = Table {
             esi: [0; 10],
             count: 0,
-            words: [UNUSED; MAX_ROUTES],
+            addresses: [UNUSED; MAX_ROUTES],
+            attributes: [0; MAX_ROUTES],
         };
         if octets::is_reserved(esi) {
             return (4, table);
@@ -174,13 +178,15 @@ impl Segment for Table {
             Ok(election) => election,
             Err(number) => return number,
         };
-        let word = Word::new(address, election);
+        let attributes = attributes_of(election);
         match self.find(address) {
-            Ok(place) => self.words[place] = word,
+            Ok(place) => self.attributes[place % MAX_ROUTES] = attributes,
             Err(_) if self.count >= MAX_ROUTES => return 8,
             Err(place) => {
-                self.words.copy_within(place..self.count, place + 1);
-                self.words[place] = word;
+                self.addresses.copy_within(place..self.count, place + 1);
+                self.attributes.copy_within(place..self.count, place + 1);
+                self.addresses[place] = address;
+                self.attributes[place] = attributes;
                 self.count += 1;
             }
         }
@@ -194,9 +200,11 @@ impl Segment for Table {
         let Ok(place) = self.find(address) else {
             return 9;
         };
-        self.words.copy_within(place + 1..self.count, place);
+        self.addresses.copy_within(place + 1..self.count, place);
+        self.attributes.copy_within(place + 1..self.count, place);
         self.count -= 1;
-        self.words[self.count] = UNUSED;
+        self.addresses[self.count] = UNUSED;
+        self.attributes[self.count] = 0;
         0
     }
 
@@ -207,33 +215,33 @@ impl Segment for Table {
         if ready.len() > MAX_READY {
             return Answer::refused(11);
         }
-        let live = self.live();
-        let (algorithm, ac_df) = in_use(live);
+        let (addresses, attributes) = self.live();
+        let (algorithm, ac_df) = in_use(attributes);
         let set = if ac_df {
             self.ready_set(ready)
         } else {
-            all_places(live.len())
+            all_places(addresses.len())
         };
         if set == 0 {
             return Answer::refused(12);
         }
         let n = set.count_ones();
-        let full = n as usize == live.len();
+        let full = n as usize == addresses.len();
         let place = match algorithm {
             0 if full => (tag % n) as usize,
             0 => nth(set, tag % n),
             1 => {
                 let digest = octets::digest(tag, &self.esi);
-                best(live, set, full, |word| {
-                    octets::weight(word.address(), digest)
+                best(addresses, set, full, |address| {
+                    octets::weight(address, digest)
                 })
             }
-            2 => best_narrow(live, set, full, Word::higher),
-            _ => best_narrow(live, set, full, Word::lower),
+            2 => best_narrow(attributes, set, full, higher),
+            _ => best_narrow(attributes, set, full, lower),
         };
         Answer {
             number: 0,
-            address: live[place].address(),
+            address: addresses[place],
             algorithm,
             n,
             candidates: set,
@@ -252,36 +260,38 @@ impl Segment for Table {
             preference,
             dp,
         };
-        let live = self.live();
-        let mut others = all_places(live.len());
+        let (addresses, attributes) = self.live();
+        let mut others = all_places(addresses.len());
         if let Ok(place) = self.find(address) {
             others &= !(1 << place);
         }
         if !dp || others == 0 {
             return own;
         }
-        let differs = |word: &Word| word.algorithm() != algorithm && word.address() != address;
-        if live.iter().fold(false, |any, word| any | differs(word)) {
+        let differs = |place: usize| {
+            (algorithm_in(attributes[place]) != algorithm) & (addresses[place] != address)
+        };
+        if (0..addresses.len()).fold(false, |any, place| any | differs(place)) {
             return own;
         }
-        let full = others.count_ones() as usize == live.len();
+        let full = others.count_ones() as usize == addresses.len();
         let place = if algorithm == 2 {
-            best_narrow(live, others, full, Word::higher)
+            best_narrow(attributes, others, full, higher)
         } else {
-            best_narrow(live, others, full, Word::lower)
+            best_narrow(attributes, others, full, lower)
         };
-        let reference = live[place];
+        let reference = preference_in(attributes[place]);
         let reached = if algorithm == 2 {
-            preference >= reference.preference()
+            preference >= reference
         } else {
-            preference <= reference.preference()
+            preference <= reference
         };
-        if !reference.dp() || !reached {
+        if attributes[place] & DP == 0 || !reached {
             return own;
         }
         Sent {
             number: 0,
-            preference: reference.preference(),
+            preference: reference,
             dp: false,
         }
     }
