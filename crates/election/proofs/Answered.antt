@@ -83,7 +83,7 @@ module _ (a d f : ℕ) (n : eqb a 1 ≡ false) where
   unfolding scoreOf
   score-any e = rw n
 
-  best-any : (es : List Entry) (ps : List ℕ) → bestPlace a d es ps ≡ bestPlace a f es ps
+  pub best-any : (es : List Entry) (ps : List ℕ) → bestPlace a d es ps ≡ bestPlace a f es ps
   unfolding bestPlace
   best-any es ps =
       ap (λ (B : ℕ → ℕ → Bool). bestOf B 64 ps)

@@ -3,3 +3,4 @@ pub mod Ready
 pub mod Winner
 pub mod Answered
 pub mod All
+pub mod Keys

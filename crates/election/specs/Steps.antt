@@ -4,6 +4,7 @@
 --   scoreOf a d e          == the number by which a candidate is preferred under the algorithm a (1 to 3) and the digest d
 --   scoreIn a d x w        == the same number, from the address x and the word of attributes w
 --   beats a s r            == whether the score s is to be preferred to r: the lower one under 3, else the greater one
+--   keyOf a s p            == a score s of algorithm 2 or 3 at the place p as one number: the greater is to be preferred, and of equal scores the first place is
 --   placeBeats a d es p q  == whether the entry at place p beats the one at q
 --   bestPlace a d es ps    == of the places ps of the entries es, the first whose entry has the best score; 64 where there is none
 --   electedPlace ..        == the place that is elected among the places ps
@@ -12,7 +13,7 @@
 --   digestUnder a tag i    == the digest of the tag on the identifier i under algorithm 1, and 0 under the others, which ask for none
 --   namedOf x a n set      == the answer that names the address x
 --   answerFor i l tag ready == the answer of the election once 10 and 11 are passed
-use Prim.Native.Nat.{ℕ, zero, suc, _+_, _*_, _/_, _%_}
+use Prim.Native.Nat.{ℕ, zero, suc, _+_, _-_, _*_, _/_, _%_}
 use mathlib.Core.Bool.{Bool, true, cond, not, _&&_}
 use mathlib.Core.List.{List, [], _∷_}
 use lib.ListN.{length, getD}
@@ -42,6 +43,9 @@ scoreIn a d x w = cond (eqb a 1) (weightOf x d) (cond (eqb a 3) (bitXor (w % 131
 
 unfoldable pub beats : ℕ → ℕ → ℕ → Bool
 beats a s r = cond (eqb a 3) (ltb s r) (ltb r s)
+
+unfoldable pub keyOf : ℕ → ℕ → ℕ → ℕ
+keyOf a s p = cond (eqb a 3) (131071 - s) s * 64 + (63 - p)
 
 abbrev pub placeBeats : ℕ → ℕ → List Entry → ℕ → ℕ → Bool
 placeBeats a d es p q = beats a (scoreOf a d (getD es p none)) (scoreOf a d (getD es q none))

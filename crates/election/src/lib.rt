@@ -7,7 +7,7 @@ use table::KIND;
 ghost use mathlib.Core.Path.{_≡_};
 ghost use mathlib.Core.List.{List, map};
 ghost use mathlib.Core.Bool.{true, false};
-ghost use Prim.Native.Nat.{ℕ};
+ghost use Prim.Native.Nat.{ℕ, _<_};
 ghost use lib.ListN.{length};
 ghost use lib.Count.{ones};
 ghost use Rattle.address.specs.Address.{addressKey};
@@ -16,7 +16,7 @@ ghost use Rattle.table.specs.Words.{tableIn, Valid};
 ghost use Rattle.table.specs.Steps.{foundIn};
 ghost use Rattle.places.specs.Places.{places, setOf};
 ghost use Rattle.election.specs.Election.{inUse, onList, electOf, refused, NoneNamed};
-ghost use Rattle.election.specs.Steps.{allOfKind, scoreIn, beats, bestPlace, placesIn, usedWith, digestUnder, answerFor, namedOf};
+ghost use Rattle.election.specs.Steps.{allOfKind, scoreIn, beats, keyOf, bestPlace, placesIn, usedWith, digestUnder, answerFor, namedOf};
 
 // The algorithm and the AC-DF bit that an election goes by.
 pub struct InUse {
@@ -191,8 +191,8 @@ pub fn best_place(t: &[u32], set: u64, algorithm: u8, digest: u32) -> usize
     at
 }
 
-// Of all places in use, the first whose entry has the best score; 64 where there is none.
-fn best_in_use(t: &[u32], algorithm: u8, digest: u32) -> usize
+// Of all places in use, the first whose entry has the best score, place by place; 64 where there is none.
+fn best_by_place(t: &[u32], algorithm: u8, digest: u32) -> usize
     requires { ⌜ Valid (now t) ⌝ }
     ensures { λ r. ⌜ r ≡ bestPlace algorithm digest (tableIn (now (t .entry)) .entries) (placesIn 0 (tableIn (now (t .entry)) .count)) ⌝ }
 {
@@ -212,6 +212,52 @@ fn best_in_use(t: &[u32], algorithm: u8, digest: u32) -> usize
         next += 1;
     }
     at
+}
+
+// A score of algorithm 2 or 3 and a place as one number: a better score is greater, and of equal scores the first place is.
+fn key(algorithm: u8, score: u32, place: usize) -> u32
+    requires { ⌜ (score < 131072) × (place < 64) ⌝ }
+    ensures { λ r. ⌜ r ≡ keyOf algorithm score place ⌝ }
+{
+    let behind = 63 - place as u32;
+    if algorithm == 3 {
+        return (131071 - score) * 64 + behind;
+    }
+    score * 64 + behind
+}
+
+// The same under algorithm 2 or 3, by the greatest key, which the compiler takes of several places at once.
+fn best_by_key(t: &[u32], algorithm: u8) -> usize
+    requires { ⌜ Valid (now t) × (algorithm ≡ 1 → ⊥) ⌝ }
+    ensures { λ r. ⌜ ((digest : ℕ) → r ≡ bestPlace algorithm digest (tableIn (now (t .entry)) .entries) (placesIn 0 (tableIn (now (t .entry)) .count))) ⌝ }
+{
+    let n = table::count(t);
+    if n == 0 {
+        return 64;
+    }
+    let first = score(t[0], t[ATTRIBUTES], algorithm, 0);
+    let mut top = key(algorithm, first, 0);
+    let mut next = 1;
+    while next < n {
+        let s = score(t[next], t[ATTRIBUTES + next], algorithm, 0);
+        let k = key(algorithm, s, next);
+        if top < k {
+            top = k;
+        }
+        next += 1;
+    }
+    (63 - top % 64) as usize
+}
+
+// Of all places in use, the first whose entry has the best score; 64 where there is none.
+fn best_in_use(t: &[u32], algorithm: u8, digest: u32) -> usize
+    requires { ⌜ Valid (now t) ⌝ }
+    ensures { λ r. ⌜ r ≡ bestPlace algorithm digest (tableIn (now (t .entry)) .entries) (placesIn 0 (tableIn (now (t .entry)) .count)) ⌝ }
+{
+    if algorithm == 1 {
+        return best_by_place(t, algorithm, digest);
+    }
+    best_by_key(t, algorithm)
 }
 
 // The digest of a tag on the table's segment, which only algorithm 1 asks for; 0 under the others.
