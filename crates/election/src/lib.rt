@@ -168,8 +168,8 @@ fn score_beats(algorithm: u8, s: u32, r: u32) -> bool
     low < high
 }
 
-// Of a set of places, the first whose entry has the best score; 64 for the empty set.
-pub fn best_place(t: &[u32], set: u64, algorithm: u8, digest: u32) -> usize
+// Of a set of places, the first whose entry has the best score, along the bits of the set; 64 for the empty set.
+fn best_in_set(t: &[u32], set: u64, algorithm: u8, digest: u32) -> usize
     requires { ⌜ Valid (now t) ⌝ }
     ensures { λ r. ⌜ r ≡ bestPlace algorithm digest (tableIn (now (t .entry)) .entries) (places set) ⌝ }
 {
@@ -258,6 +258,17 @@ fn best_in_use(t: &[u32], algorithm: u8, digest: u32) -> usize
         return best_by_place(t, algorithm, digest);
     }
     best_by_key(t, algorithm)
+}
+
+// Of a set of places, the first whose entry has the best score; 64 for the empty set.
+pub fn best_place(t: &[u32], set: u64, algorithm: u8, digest: u32) -> usize
+    requires { ⌜ Valid (now t) ⌝ }
+    ensures { λ r. ⌜ r ≡ bestPlace algorithm digest (tableIn (now (t .entry)) .entries) (places set) ⌝ }
+{
+    if set == places::below(table::count(t)) {
+        return best_in_use(t, algorithm, digest);
+    }
+    best_in_set(t, set, algorithm, digest)
 }
 
 // The digest of a tag on the table's segment, which only algorithm 1 asks for; 0 under the others.
