@@ -1,4 +1,4 @@
-// The bench program (document 01, "The bench program"): records on standard input, answer lines on standard output. All that matters is in `records`;
+// The bench program (document 01, "The bench program"): records on standard input, answer lines on standard output. All that matters is in `blocks` and `records`;
 // here blocks of octets are read and written. Input of any length is taken in constant memory: what the records of a block leave over is moved to its
 // front, and the next octets are read behind it.
 use libc::STDIN_FILENO;
@@ -17,7 +17,7 @@ struct Work {
 
 // The input has ended, and the octets that are left are no whole record.
 fn end(phase: Phase, block: &[u8], out: &mut [u8]) {
-    let wrote = records::finish(phase, block, out);
+    let wrote = blocks::finish(phase, block, out);
     io::write_all(STDOUT_FILENO, &out[..wrote]);
 }
 
@@ -49,12 +49,12 @@ fn turn(t: &mut [u32], phase: Phase, block: &mut [u8], filled: usize, out: &mut 
     requires { ⌜ (filled ≤ length (now block)) × Valid (now t) ⌝ }
     ensures { λ r. ⌜ (r .filled ≤ length (now (block .exit))) × Valid (now (t .exit)) ⌝ }
 {
-    let p = records::process(t, phase, &block[..filled], out);
+    let p = blocks::process(t, phase, &block[..filled], out);
     let next = p.phase;
     let used = p.used;
     let wrote = p.wrote;
     let is_written = io::write_all(STDOUT_FILENO, &out[..wrote]);
-    let left = records::keep(block, used, filled);
+    let left = blocks::keep(block, used, filled);
     if !is_written {
         return Work {
             phase: next,
@@ -62,7 +62,7 @@ fn turn(t: &mut [u32], phase: Phase, block: &mut [u8], filled: usize, out: &mut 
             going: false,
         };
     }
-    if records::ended(next) {
+    if blocks::ended(next) {
         return Work {
             phase: next,
             filled: left,
@@ -81,7 +81,7 @@ fn turn(t: &mut [u32], phase: Phase, block: &mut [u8], filled: usize, out: &mut 
 
 // A proved loop has to end, and nothing says that the input does: the turns are counted down from a number that no run uses up.
 fn run(block: &mut [u8], out: &mut [u8]) {
-    let begun = records::start();
+    let begun = blocks::start();
     let first = begun.phase;
     let mut t = begun.table;
     let mut work = Work {

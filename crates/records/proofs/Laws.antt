@@ -1,21 +1,20 @@
--- Laws of `specs/Records.antt`: how long lines are, and the run by what stands at its front.
+-- Laws of a record's lines and of what is written: how long lines are, which line is printed, and octets written into a buffer.
 -- Assumes nothing.
-use Prim.Native.Nat.{ℕ, zero, suc, _+_, _^_, _≤_, _<_}
+use Prim.Native.Nat.{ℕ, _+_, _^_, _≤_, _<_}
+use native.Mathlib.Nat.{add-zero}
 use native.Mathlib.Omega.{arith}
 use mathlib.Core.Path.{_≡_, refl, ap, _∙_, sym, subst}
-use mathlib.Core.Bool.{Bool, true, false, cond}
-use mathlib.Core.List.{List, [], _∷_, _++_}
-use lib.ListN.{length, take, drop, length-append}
+use mathlib.Core.Bool.{Bool, true, false, _&&_}
+use mathlib.Core.List.{List, [], _∷_, _++_, append-nil}
+use lib.ListN.{length, take, drop, length-append, take-append-drop, drop-of-length-le}
+use lib.Dec.{leb}
 use borrow.Author.Tests.{eq-eqb, ne-eqb, le-leb, lt-leb}
 use Rattle.election.specs.declared.Answer.{Answer}
-use Rattle.frames.specs.Frames.{Front, nothing, bad, cut, whole, front}
-use Rattle.frames.proofs.Laws.{Found, cut-begun, nothing-empty, whole-record, whole-append, bad-append}
-use Rattle.octets.proofs.Laws.{stored-front}
+use Rattle.octets.proofs.Laws.{stored-fits, front-all}
 use Rattle.lines.specs.Lines.{decimal, dotted, Put}
-use Rattle.lines.proofs.Laws.{put-made, put-place, put-all, length-decimal, length-decimal-octet, length-dotted}
-use Rattle.records.specs.declared.Phase.{Phase}
-use Rattle.records.specs.Steps.{Written}
-use Rattle.records.specs.Records.{Bench, line, placeLine, hasPlace, readLine, badLine, electedLine, queryLine, turn, isEnd, hasEnded, before, runFor, runFrom, endOf}
+use Rattle.lines.proofs.Laws.{put-place, put-all, length-decimal, length-decimal-octet, length-dotted}
+use Rattle.records.specs.Steps.{Written, takes}
+use Rattle.records.specs.Records.{line, placeLine, hasPlace, readLine, electedLine, queryLine}
 
 -- ---- lines
 
@@ -93,109 +92,31 @@ written-all p q h = written (put-all p q h) h
 pub written-as : {d : List ℕ} {at : ℕ} {s t : List ℕ} {r : ℕ} {e : List ℕ} → Written d at s r e → s ≡ t → Written d at t r e
 written-as {d} {at} {s} {t} {r} {e} w q = subst (λ (l : List ℕ). Written d at l r e) q w
 
--- ---- the run
+-- no octets written into a buffer
+pub written-none : (d : List ℕ) (at : ℕ) → at ≤ length d → Written d at [] at d
+written-none d at h =
+    record { fits = omega arith; place = omega arith; buffer = sym (stored-fits d at [] (omega arith) ∙ rw (add-zero, append-nil) (take-append-drop at d)) }
 
-either : (t : Bool) (l : List ℕ) → cond t l l ≡ l
-either true l = refl
-either false l = refl
+-- ---- words copied
 
--- at the end of the input nothing is printed, nor after the end of the run
-runFor-nothing : (n : ℕ) (b : Bench) → runFor n b [] ≡ []
-unfolding runFor before front
-runFor-nothing zero b = refl
-runFor-nothing (suc n) b = either (hasEnded b) []
+pub copied : (d s : List ℕ) (n : ℕ) → length s ≡ n → length d ≡ n → take n s ++ drop n d ≡ s
+copied d s n e l = front-all d s n e ∙ ap (s ++_) (drop-of-length-le d {i = n} (omega arith)) ∙ append-nil s
 
-runFor-ended : (n : ℕ) (b : Bench) (s : List ℕ) → hasEnded b ≡ true → runFor n b s ≡ []
-unfolding runFor
-runFor-ended zero b s h = refl
-runFor-ended (suc n) b s h = rw h
+-- ---- whether a record is taken
 
--- a whole record has at least four octets
-pub whole-shorter : (s : List ℕ) {k : ℕ} {p r : List ℕ} → front s ≡ whole k p r → length r + 4 ≤ length s
-whole-shorter s {k} {p} {r} e = omega (arith, ap length (whole-record s e), length-append p r)
+and-false : (t : Bool) → (t && false) ≡ false
+and-false true = refl
+and-false false = refl
 
-before-same : (b : Bench) (go ho : Bench → List ℕ → List ℕ) (f : Front)
-    → ((k : ℕ) (p r : List ℕ) → f ≡ whole k p r → (c : Bench) → go c r ≡ ho c r) → before b f go ≡ before b f ho
-unfolding before
-before-same b go ho nothing h = refl
-before-same b go ho bad h = refl
-before-same b go ho cut h = refl
-before-same b go ho (whole k p r) h = ap (turn b k p .line ++_) (h k p r refl (turn b k p .next))
+module _ (d : List ℕ) (at : ℕ) (p : List ℕ) where
+  pub takes-room : at + 40 ≤ length d → length p ≤ 255 → takes d at p ≡ true
+  unfolding takes
+  takes-room h l = rw (le-leb (at + 40) (length d) h, le-leb (length p) 255 l)
 
--- more turns than octets do not matter
-runFor-enough : (n m : ℕ) (b : Bench) (s : List ℕ) → length s ≤ n → length s ≤ m → runFor n b s ≡ runFor m b s
-unfolding runFor
-runFor-enough zero m b [] h l = sym (runFor-nothing m b)
-runFor-enough zero m b (x ∷ s) h l = absurd (omega arith)
-runFor-enough (suc n) zero b [] h l = runFor-nothing (suc n) b
-runFor-enough (suc n) zero b (x ∷ s) h l = absurd (omega arith)
-runFor-enough (suc n) (suc m) b s h l =
-    ap (cond (hasEnded b) [])
-    (before-same b (runFor n) (runFor m) (front s) (λ k p r e c. let q = whole-shorter s e in runFor-enough n m c r (omega arith) (omega arith)))
+  pub takes-short : length d < at + 40 → takes d at p ≡ false
+  unfolding takes
+  takes-short h = rw (lt-leb (at + 40) (length d) h)
 
-pub run-ended : (b : Bench) (s : List ℕ) → hasEnded b ≡ true → runFrom b s ≡ []
-unfolding runFrom
-run-ended b s h = runFor-ended (length s) b s h
-
-pub run-nothing : (b : Bench) → runFrom b [] ≡ []
-unfolding runFrom
-run-nothing b = runFor-nothing 0 b
-
--- a whole record: its line, then the run on what follows it
-pub run-whole : (b : Bench) (s : List ℕ) {k : ℕ} {p r : List ℕ} → hasEnded b ≡ false → front s ≡ whole k p r
-    → runFrom b s ≡ turn b k p .line ++ runFrom (turn b k p .next) r
-unfolding runFrom runFor before
-run-whole b [] h e = absurd (omega (arith, whole-shorter [] e))
-run-whole b (x ∷ s) {k} {p} {r} h e =
-    let q = whole-shorter (x ∷ s) e in
-    rw (h, e) (ap (turn b k p .line ++_) (runFor-enough (length s) (length r) (turn b k p .next) r (omega arith) (omega arith)))
-
--- a bad or cut record: the line `x 16`, and no more
-pub run-bad : (b : Bench) (s : List ℕ) → hasEnded b ≡ false → front s ≡ bad → runFrom b s ≡ badLine
-unfolding runFrom runFor before front
-run-bad b [] h e = let z : _≡_ {A = ℕ} 0 1 = cc in absurd (omega arith)
-run-bad b (x ∷ s) h e = rw (h, e)
-
-pub run-cut : (b : Bench) (s : List ℕ) → hasEnded b ≡ false → front s ≡ cut → runFrom b s ≡ badLine
-unfolding runFrom runFor before front
-run-cut b [] h e = let z : _≡_ {A = ℕ} 0 1 = cc in absurd (omega arith)
-run-cut b (x ∷ s) h e = rw (h, e)
-
--- ---- with octets that follow
-
--- a whole record at a place
-pub run-found : (b : Bench) (s rest : List ℕ) {at k start len : ℕ} → hasEnded b ≡ false → Found s at k start len
-    → runFrom b (drop at s ++ rest) ≡ turn b k (take len (drop start s)) .line ++ runFrom (turn b k (take len (drop start s)) .next) (drop (start + len) s ++ rest)
-run-found b s rest {at} h f = run-whole b (drop at s ++ rest) h (whole-append (drop at s) rest (f .stands))
-
--- a bad record
-pub run-spoilt : (b : Bench) (s rest : List ℕ) → hasEnded b ≡ false → front s ≡ bad → runFrom b (s ++ rest) ≡ badLine
-run-spoilt b s rest h e = run-bad b (s ++ rest) h (bad-append s rest e)
-
--- ---- the end of the input
-
-module _ (f : Phase) (s : List ℕ) where
-  pub end-ended : isEnd f ≡ true → endOf f s ≡ []
-  unfolding endOf
-  end-ended h = rw h
-
-  pub end-empty : length s ≡ 0 → endOf f s ≡ []
-  unfolding endOf
-  end-empty h = rw (eq-eqb (length s) 0 h) (either (isEnd f) [])
-
-  pub end-left : isEnd f ≡ false → (length s ≡ 0 → ⊥) → endOf f s ≡ badLine
-  unfolding endOf
-  end-left h n = rw (h, ne-eqb (length s) 0 n)
-
--- what is no whole record: the run's end is what `endOf` says
-pub run-end-nothing : (b : Bench) (s : List ℕ) → front s ≡ nothing → runFrom b s ≡ endOf (b .phase) s
-run-end-nothing b s e =
-    let q = nothing-empty s e in
-    ap (runFrom b) q ∙ run-nothing b ∙ sym (end-empty (b .phase) s (ap length q))
-
-pub run-end-cut : (b : Bench) (s : List ℕ) → hasEnded b ≡ false → front s ≡ cut → runFrom b s ≡ endOf (b .phase) s
-run-end-cut b s h e = run-cut b s h e ∙ sym (end-left (b .phase) s h (λ z. let l = cut-begun s e .begun in omega arith))
-
--- no octets put at the front of a buffer
-pub put-none : (d : List ℕ) → Put d 0 [] 0 d
-put-none d = put-made (omega arith) refl (sym (stored-front d [] (omega arith)))
+  pub takes-long : 255 < length p → takes d at p ≡ false
+  unfolding takes
+  takes-long h = rw (lt-leb (length p) 255 h) (and-false (leb (at + 40) (length d)))

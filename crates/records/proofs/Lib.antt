@@ -1,5 +1,4 @@
--- Laws of the run, and of its turns.
+-- Laws of a record's lines and of its turn.
 pub mod Laws
-pub mod Blocks
 mod Turns
 mod Words

@@ -1,14 +1,12 @@
 -- One law for each turn: what the code did is the turn. Assumes nothing.
 use Prim.Native.Nat.{ℕ, _-_, _%_, _≤_, _<_}
-use native.Mathlib.Nat.{add-zero}
 use native.Mathlib.Omega.{arith}
 use mathlib.Core.Path.{_≡_, refl, ap, _∙_, sym, subst}
-use mathlib.Core.List.{List, [], _∷_, append-nil}
-use lib.ListN.{replicate, length, getD, take, drop, length-drop, take-append-drop}
+use mathlib.Core.List.{List, [], _∷_}
+use lib.ListN.{length, getD, take, drop, length-drop}
 use lib.Seq.{take-all}
 use borrow.Author.Tests.{eq-eqb, ne-eqb, le-leb, lt-leb}
 use Rattle.octets.specs.Octets.{numberOf}
-use Rattle.octets.proofs.Laws.{stored-fits}
 use Rattle.esi.specs.declared.TextRead.{TextRead}
 use Rattle.esi.specs.Text.{readText}
 use Rattle.table.specs.Table.{Table, live, freshTable, announced, withdrawn}
@@ -18,9 +16,9 @@ use Rattle.election.specs.Election.{electOf}
 use Rattle.records.specs.declared.Phase.{Phase}
 use Rattle.records.specs.declared.Phase.the-variants.{Start, Running, Ended}
 use Rattle.records.specs.declared.Step.{Step}
-use Rattle.records.specs.Records.{Bench, Turn, line, readLine, stateIn, running, ended, refused, queryLine, textTurn, announceTurn, withdrawTurn, queryTurn, laterTurn, wordsIn, turnIn, first, runFrom, runOf}
+use Rattle.records.specs.Records.{Turn, line, readLine, stateIn, running, ended, refused, queryLine, textTurn, announceTurn, withdrawTurn, queryTurn, laterTurn, wordsIn, turnIn}
 use Rattle.records.specs.Steps.{Written, Stepped}
-use Rattle.records.proofs.Laws.{written-as}
+use Rattle.records.proofs.Laws.{written-as, written-none}
 
 -- four octets are the list of themselves
 pub four : (l : List ℕ) → length l ≡ 4 → getD l 0 0 ∷ getD l 1 0 ∷ getD l 2 0 ∷ getD l 3 0 ∷ [] ≡ l
@@ -125,25 +123,7 @@ module _ (t : Table) (k : ℕ) (p : List ℕ) where
 pub stepped-as : {d : List ℕ} {at : ℕ} {u v : Turn} {r : Step} {w e : List ℕ} → Stepped d at u r w e → u ≡ v → Stepped d at v r w e
 stepped-as {d} {at} {u} {v} {r} {w} {e} s q = subst (λ (x : Turn). Stepped d at x r w e) q s
 
--- the state of a phase and a table
-abbrev inPhase : Phase → Table → Bench
-inPhase f t = record { phase = f; table = t }
-
--- the state at the start
-pub started : (y : List ℕ) {m : ℕ} → Told (freshTable (replicate 10 0)) m 0 y → stateIn Start y ≡ first
-unfolding first
-started y {m} f = ap (inPhase Start) (f .2)
-
-pub run-first : {b : Bench} → b ≡ first → (s : List ℕ) → runFrom b s ≡ runOf s
-unfolding runOf
-run-first e s = ap (λ (b : Bench). runFrom b s) e
-
 -- ---- which turn a record's is, by phase
-
--- no octets written into a buffer
-pub written-none : (d : List ℕ) (at : ℕ) → at ≤ length d → Written d at [] at d
-written-none d at h =
-    record { fits = omega arith; place = omega arith; buffer = sym (stored-fits d at [] (omega arith) ∙ rw (add-zero, append-nil) (take-append-drop at d)) }
 
 module _ (h : Phase) (t : Table) (k : ℕ) (p : List ℕ) where
   pub turn-begin : h ≡ Start → k ≡ 0 → textTurn t p ≡ turnIn h t k p

@@ -1,16 +1,12 @@
-// The bench program's run (document 01, "The bench program"): a whole record is carried out upon a lent table, and its line is put into a lent
-// buffer. A line has at most 40 octets. Blocks of input are taken record by record; reading and writing them is the program's.
+// What one whole record of the bench program does (document 01, "The bench program"): it is carried out upon a lent table, and its line is put into a
+// lent buffer. A line has at most 40 octets.
 use election::Answer;
-use frames::Frame;
 ghost use mathlib.Core.Path.{_≡_};
 ghost use mathlib.Core.Bool.{true, false};
-ghost use Prim.Native.Nat.{ℕ, _+_, _≤_, _/_, min};
+ghost use Prim.Native.Nat.{ℕ, _+_, _≤_, _/_};
 ghost use mathlib.Core.List.{List};
 ghost use lib.ListN.{length, take};
-ghost use Rattle.octets.specs.Octets.{stored};
-ghost use Rattle.table.specs.Table.{Table};
 ghost use Rattle.table.specs.Words.{tableIn, Valid};
-ghost use Rattle.lines.specs.Lines.{Put};
 ghost use Rattle.records.specs.Records.{
   line,
   placeLine,
@@ -26,14 +22,9 @@ ghost use Rattle.records.specs.Records.{
   queryTurn,
   laterTurn,
   turn,
-  isEnd,
   stateIn,
-  first,
-  endOf,
-  runFrom,
-  runOf,
 };
-ghost use Rattle.records.specs.Steps.{Written, Stepped, Advanced, Ran, stopped, Stopped, kept};
+ghost use Rattle.records.specs.Steps.{Written, Stepped, takes};
 
 // Where a run stands: no record was taken, records are carried out, nothing more is looked at.
 pub enum Phase {
@@ -42,27 +33,17 @@ pub enum Phase {
     Ended,
 }
 
-// The state in which a run starts: the phase, and the words of the table that the run is then lent.
-pub struct Begun {
-    pub phase: Phase,
-    pub table: [u32; 139],
-}
-
 // The phase after a record, and the place after its line.
 pub struct Step {
     pub phase: Phase,
     pub at: usize,
 }
 
-// How far a block of input was taken: the phase, how many octets of input are used, and how many octets of output are made.
-pub struct Progress {
-    pub phase: Phase,
-    pub used: usize,
-    pub wrote: usize,
-}
-
 // The room that any line finds enough.
-const LINE_ROOM: usize = 40;
+pub const LINE_ROOM: usize = 40;
+
+// The most octets that a record's payload has.
+const MAX_PAYLOAD: usize = 255;
 
 // The most ready addresses that are read from a query.
 const MAX_READY: usize = 64;
@@ -234,48 +215,6 @@ fn addresses_in(s: &[u8]) -> [u32; 64]
     ready
 }
 
-// Whether a run has ended: nothing more is looked at.
-pub fn ended(phase: Phase) -> bool
-    ensures { λ r. ⌜ r ≡ isEnd phase ⌝ }
-{
-    match phase {
-        Phase::Start => false,
-        Phase::Running => false,
-        Phase::Ended => true,
-    }
-}
-
-// The state in which a run starts: from it, the run on an input is the whole output for that input.
-pub fn start() -> Begun
-    ensures answer { λ r. ⌜ stateIn (r .phase) (r .table) ≡ first ⌝ }
-    ensures run { λ r. ⌜ ((s : List ℕ) → runFrom (stateIn (r .phase) (r .table)) s ≡ runOf s) ⌝ }
-    ensures kept { λ r. ⌜ Valid (r .table) ⌝ }
-{
-    let zeros = [0u8; 10];
-    let made = table::fresh(&zeros);
-    let words = made.table;
-    Begun {
-        phase: Phase::Start,
-        table: words,
-    }
-}
-
-// Puts what is printed where the input ends with the octets `rest`, which are no whole record: `x 16` if there are any and the run has not
-// ended. Answers how many octets that is; where they do not fit, the buffer stays as it is and the answer is 0. Where `process` had to stop with room
-// left, this is what the run on those octets prints, whatever its table.
-pub fn finish(phase: Phase, rest: &[u8], out: &mut [u8]) -> usize
-    ensures answer { λ r. ⌜ Put (now (out .entry)) 0 (endOf phase (now (rest .entry))) r (now (out .exit)) ⌝ }
-    ensures run { λ _. ⌜ ((t : Table) → stopped (record { phase = phase; table = t }) (now (rest .entry)) 40 ≡ true → runFrom (record { phase = phase; table = t }) (now (rest .entry)) ≡ endOf phase (now (rest .entry))) ⌝ }
-{
-    if ended(phase) {
-        return 0;
-    }
-    if rest.len() == 0 {
-        return 0;
-    }
-    lines::put_run(out, 0, b"x 16\n")
-}
-
 // A query: the tag, then the ready addresses.
 fn query(t: &[u32], payload: &[u8], out: &mut [u8], at: usize) -> Step
     requires { ⌜ (at + 40 ≤ length (now out)) × (4 ≤ length (now payload)) × (length (now payload) ≤ 255) × Valid (now t) ⌝ }
@@ -347,121 +286,29 @@ fn carry_out(
     }
 }
 
-// One record at place `used` of the input, or none, where the octets from there on hold no whole record.
-fn take_record(
+// One whole record, in any state: its line is put from place `at` on. Where fewer than 40 octets are left there, or where the payload has more than
+// 255 octets, which no frame holds, nothing is done: the answer is `phase` and `at`, and the table and the buffer stay as they are.
+pub fn take_turn(
     t: &mut [u32],
     phase: Phase,
-    input: &[u8],
-    used: usize,
+    kind: u8,
+    payload: &[u8],
     out: &mut [u8],
-    wrote: usize,
-) -> Progress
-    requires { ⌜ (used ≤ length (now input)) × (wrote + 40 ≤ length (now out)) × (isEnd phase ≡ false) × Valid (now t) ⌝ }
-    ensures run { λ r. ⌜ Advanced (stateIn phase (now (t .entry))) (now (input .entry)) used (now (out .entry)) wrote r (stateIn (r .phase) (now (t .exit))) (now (out .exit)) ⌝ }
-    ensures kept { λ _. ⌜ Valid (now (t .exit)) ⌝ }
-{
-    let frame = frames::frame_at(input, used);
-    match frame {
-        Frame::Nothing => Progress { phase, used, wrote },
-        Frame::Cut => Progress { phase, used, wrote },
-        Frame::Bad => {
-            let step = refuse(out, wrote);
-            let next = step.phase;
-            let end = step.at;
-            Progress {
-                phase: next,
-                used: input.len(),
-                wrote: end,
-            }
-        }
-        Frame::Whole { kind, start, len } => {
-            let after = start + len;
-            let step = carry_out(t, phase, kind, &input[start..after], out, wrote);
-            let next = step.phase;
-            let end = step.at;
-            Progress {
-                phase: next,
-                used: after,
-                wrote: end,
-            }
-        }
-    }
-}
-
-// One record, or none, where the run has ended or the room for a line is too little.
-fn advance(
-    t: &mut [u32],
-    phase: Phase,
-    input: &[u8],
-    used: usize,
-    out: &mut [u8],
-    wrote: usize,
-) -> Progress
-    requires { ⌜ (used ≤ length (now input)) × (wrote ≤ length (now out)) × Valid (now t) ⌝ }
-    ensures run { λ r. ⌜ Advanced (stateIn phase (now (t .entry))) (now (input .entry)) used (now (out .entry)) wrote r (stateIn (r .phase) (now (t .exit))) (now (out .exit)) ⌝ }
-    ensures kept { λ _. ⌜ Valid (now (t .exit)) ⌝ }
-{
-    let room = out.len() - wrote;
-    if room < LINE_ROOM {
-        return Progress { phase, used, wrote };
-    }
-    if ended(phase) {
-        return Progress { phase, used, wrote };
-    }
-    take_record(t, phase, input, used, out, wrote)
-}
-
-// Takes the records of a block of input, as far as they are whole and their lines find room: the first `used` octets of the input are done with, and what
-// they print stands in the first `wrote` octets of the buffer; the others stay as they are. Whatever follows the block, the run goes on from the
-// phase in the answer and the table, with the octets of the block that were not used at its front.
-pub fn process(t: &mut [u32], phase: Phase, input: &[u8], out: &mut [u8]) -> Progress
+    at: usize,
+) -> Step
     requires { ⌜ Valid (now t) ⌝ }
-    ensures run { λ r. ⌜ Ran (stateIn phase (now (t .entry))) (now (input .entry)) (now (out .entry)) r (stateIn (r .phase) (now (t .exit))) (now (out .exit)) ⌝ }
-    ensures stopped { λ r. ⌜ Stopped (now (input .entry)) (now (out .entry)) r (stateIn (r .phase) (now (t .exit))) ≡ true ⌝ }
-    ensures kept { λ _. ⌜ Valid (now (t .exit)) ⌝ }
+    ensures taken { λ r. ⌜ (takes (now (out .entry)) at (now (payload .entry)) ≡ true → Stepped (now (out .entry)) at (turn (stateIn phase (now (t .entry))) kind (now (payload .entry))) r (now (t .exit)) (now (out .exit))) ⌝ }
+    ensures none { λ r. ⌜ (takes (now (out .entry)) at (now (payload .entry)) ≡ false → (r .phase ≡ phase) × (r .at ≡ at) × (now (t .exit) ≡ now (t .entry)) × (now (out .exit) ≡ now (out .entry))) ⌝ }
 {
-    let mut p = Progress {
-        phase,
-        used: 0,
-        wrote: 0,
-    };
-    loop {
-        let last = p.phase;
-        let used = p.used;
-        let wrote = p.wrote;
-        let next = advance(t, last, input, used, out, wrote);
-        if next.used == used {
-            return next;
-        }
-        p = next;
+    if payload.len() > MAX_PAYLOAD {
+        return Step { phase, at };
     }
-}
-
-// The smaller of two numbers.
-fn least(a: usize, b: usize) -> usize
-    ensures { λ r. ⌜ r ≡ min a b ⌝ }
-{
-    if a < b {
-        return a;
+    if out.len() < at {
+        return Step { phase, at };
     }
-    b
-}
-
-// Moves the octets of a block that were not used to its front: those from place `used` up to place `filled`, where a place past the end counts as
-// the end. The other places stay as they are. Answers how many octets were moved.
-pub fn keep(block: &mut [u8], used: usize, filled: usize) -> usize
-    ensures count { λ r. ⌜ r ≡ length (kept (now (block .entry)) used filled) ⌝ }
-    ensures moved { λ _. ⌜ now (block .exit) ≡ stored (now (block .entry)) 0 (kept (now (block .entry)) used filled) ⌝ }
-{
-    let end = least(filled, block.len());
-    if end <= used {
-        return 0;
+    let room = out.len() - at;
+    if room < LINE_ROOM {
+        return Step { phase, at };
     }
-    let n = end - used;
-    let mut i = 0;
-    while i < n {
-        block[i] = block[used + i];
-        i += 1;
-    }
-    n
+    carry_out(t, phase, kind, payload, out, at)
 }

@@ -1,7 +1,7 @@
 -- `turn` meets its contract: what is left fits into the block, and the table is one that the calls made. Assumes nothing.
 use mathlib.Core.Path.{sym}
 use lib.Seq.{length-take-le}
-use Rattle.records.proofs.Blocks.{kept-within}
+use Rattle.blocks.proofs.Blocks.{kept-within}
 use borrow.Author.Needs.{needs}
 use Rattle.bench.proofs.turn.Statement.{statement}
 use Rattle.bench.proofs.turn.Tie as tie

@@ -5,7 +5,7 @@ use mathlib.Core.Path.{_≡_, refl, sym, _∙_}
 use mathlib.Core.List.{_++_}
 use lib.ListN.{length, take, drop, length-set}
 use Rattle.octets.proofs.Laws.{front-next}
-use Rattle.records.proofs.Blocks.{copied}
+use Rattle.records.proofs.Laws.{copied}
 use Rattle.records.proofs.copy_words.Statement.{statement}
 use Rattle.records.proofs.copy_words.Tie as tie
 

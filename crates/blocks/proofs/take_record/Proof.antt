@@ -3,11 +3,12 @@ use Prim.Native.Nat.{_+_}
 use native.Mathlib.Omega.{arith}
 use mathlib.Core.Path.{sym, _∙_}
 use Rattle.frames.proofs.Laws.{frame-told, found-length}
 use Rattle.records.specs.Records.{stateIn}
-use Rattle.records.proofs.Blocks.{part-length, stopped-nothing, stopped-cut, advanced-none, advanced-bad, advanced-whole}
+use Rattle.records.proofs.Laws.{written, takes-room}
+use Rattle.blocks.proofs.Blocks.{part-length, stopped-nothing, stopped-cut, advanced-none, advanced-bad, advanced-whole}
 use borrow.Author.Needs.{needs}
-use Rattle.records.proofs.take_record.Statement.{statement}
-use Rattle.records.proofs.take_record.Tie as tie
+use Rattle.blocks.proofs.take_record.Statement.{statement}
+use Rattle.blocks.proofs.take_record.Tie as tie
 
 frame-at-requires : tie.Need-frame-at-requires
 frame-at-requires c κs = search needs
@@ -21,8 +22,11 @@ enum-told-2 c = search needs
 enum-told-3 : tie.Need-enum-told-3
 enum-told-3 c = search needs
 
-refuse-requires : tie.Need-refuse-requires
-refuse-requires c κs = search needs
+slice-aggregate-put-run : tie.Need-slice-aggregate-put-run
+slice-aggregate-put-run c = search needs
+
+put-run-requires : tie.Need-put-run-requires
+put-run-requires c κs = search needs
 
 enum-known-frame : tie.Need-enum-known-frame
 enum-known-frame c = search needs
@@ -33,24 +37,20 @@ add-after c =
     let w = frame-told (a .input .now) (a .used) (sym (c .before .before .before .frame-at .ensures) ∙ c .before .frame .given .1) in
     omega (arith, w .fits)
 
-sub-carry-out : tie.Need-sub-carry-out
-sub-carry-out c = search needs
+sub-take-turn : tie.Need-sub-take-turn
+sub-take-turn c = search needs
 
-part-carry-out-start : tie.Need-part-carry-out-start
-part-carry-out-start c = search needs
+part-take-turn-start : tie.Need-part-take-turn-start
+part-take-turn-start c = search needs
 
-part-carry-out-end : tie.Need-part-carry-out-end
-part-carry-out-end c =
+part-take-turn-end : tie.Need-part-take-turn-end
+part-take-turn-end c =
     let a = c .before .before .before .before .before .before .before .before .args in
     let w = frame-told (a .input .now) (a .used) (sym (c .before .before .before .before .frame-at .ensures) ∙ c .before .before .frame .given .1) in
     omega (arith, w .fits)
 
-carry-out-requires : tie.Need-carry-out-requires
-carry-out-requires c κs =
-    let a = c .before .before .before .before .before .before .before .before .before .before .args in
-    let w = frame-told (a .input .now) (a .used) (sym (c .before .before .before .before .before .before .frame-at .ensures) ∙ c .before .before .before .before .frame .given .1) in
-    let o = c .before .before .before .before .before .before .before .before .shared-slice-known .given (a .used + 3) in
-    (omega arith, part-length _ _ _ (w .fits) (found-length (a .input .now) (o .fits) w), c .before .before .before .before .before .before .before .before .before .before .pre .3)
+take-turn-requires : tie.Need-take-turn-requires
+take-turn-requires c κs = search needs
 
 returns : tie.Need-returns
 returns c =
@@ -75,12 +75,11 @@ same-length c = search needs
 
 returns-3 : tie.Need-returns-3
 returns-3 c =
-    let s = c .before .before .before .before .before .before .before .before .before .before in
-    let a = s .args in
-    let r = c .before .before in (
-      advanced-bad (stateIn (a .phase) (a .t .now)) (a .input .now) (a .used) (a .out .now) (a .wrote) (s .pre .0) (r .refuse .result) (a .t .now) _ (s .pre .2)
-          (frame-told (a .input .now) (a .used) (sym (c .before .before .before .before .before .before .frame-at .ensures) ∙ c .before .before .before .before .enum-told3 .given .1))
-          (r .refuse .ensures (a .t .now) (s .pre .3)),
+    let s = c .before .before .before .before .before .before .before .before .before .before .before in
+    let a = s .args in (
+      advanced-bad (stateIn (a .phase) (a .t .now)) (a .input .now) (a .used) (a .out .now) (a .wrote) (s .pre .0) (a .t .now) (s .pre .2)
+          (frame-told (a .input .now) (a .used) (sym (c .before .before .before .before .before .before .before .frame-at .ensures) ∙ c .before .before .before .before .before .enum-told3 .given .1))
+          (written (c .before .before .put-run .ensures) (omega arith)),
       s .pre .3,
     )
 
@@ -94,12 +93,10 @@ returns-4 : tie.Need-returns-4
 returns-4 c =
     let s = c .before .before .before .before .before .before .before .before .before .before .before .before .before .before .before in
     let a = s .args in
-    let r = c .before .before .before .before in (
-      advanced-whole (stateIn (a .phase) (a .t .now)) (a .input .now) (a .used) (a .out .now) (a .wrote) (s .pre .0) _ _ _ (r .carry-out .result) _ _ (s .pre .2)
-          (frame-told (a .input .now) (a .used) (sym (c .before .before .before .before .before .before .before .before .before .before .before .frame-at .ensures) ∙ c .before .before .before .before .before .before .before .before .before .frame .given .1))
-          (r .carry-out .ensures),
-      r .carry-out .ensures .kept,
-    )
+    let w = frame-told (a .input .now) (a .used) (sym (c .before .before .before .before .before .before .before .before .before .before .before .frame-at .ensures) ∙ c .before .before .before .before .before .before .before .before .before .frame .given .1) in
+    let o = c .before .before .before .before .before .before .before .before .before .before .before .before .before .shared-slice-known .given (a .used + 3) in
+    let t = c .before .before .before .before .take-turn .ensures .0 (takes-room (a .out .now) (a .wrote) _ (omega arith) (part-length _ _ _ (w .fits) (found-length (a .input .now) (o .fits) w))) in
+    (advanced-whole (stateIn (a .phase) (a .t .now)) (a .input .now) (a .used) (a .out .now) (a .wrote) (s .pre .0) _ _ _ _ _ _ (s .pre .2) w t, t .kept)
 
 pub take-record-spec : {M : Type 1} → statement M
 take-record-spec =
@@ -109,13 +106,14 @@ take-record-spec =
     enum-told
     enum-told-2
     enum-told-3
-    refuse-requires
+    slice-aggregate-put-run
+    put-run-requires
     enum-known-frame
     add-after
-    sub-carry-out
-    part-carry-out-start
-    part-carry-out-end
-    carry-out-requires
+    sub-take-turn
+    part-take-turn-start
+    part-take-turn-end
+    take-turn-requires
     returns
     returns-2
     same-length

@@ -1,11 +1,11 @@
 -- `finish` meets its contract: nothing, or the line of a bad record. Assumes nothing.
 use mathlib.Core.Path.{sym, _∙_}
 use Rattle.lines.proofs.Laws.{put-as}
-use Rattle.records.proofs.Laws.{put-none, end-ended, end-empty, end-left}
-use Rattle.records.proofs.Blocks.{end-stopped}
+use Rattle.blocks.proofs.Runs.{put-none, end-ended, end-empty, end-left}
+use Rattle.blocks.proofs.Blocks.{end-stopped}
 use borrow.Author.Needs.{needs}
-use Rattle.records.proofs.finish.Statement.{statement}
-use Rattle.records.proofs.finish.Tie as tie
+use Rattle.blocks.proofs.finish.Statement.{statement}
+use Rattle.blocks.proofs.finish.Tie as tie
 
 ended-requires : tie.Need-ended-requires
 ended-requires c κs = search needs

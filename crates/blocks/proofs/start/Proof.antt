@@ -1,8 +1,8 @@
 -- `start` meets its contract: an empty table, and no record taken. Assumes nothing.
-use Rattle.records.proofs.Turns.{started, run-first}
+use Rattle.blocks.proofs.Runs.{started, run-first}
 use borrow.Author.Needs.{needs}
-use Rattle.records.proofs.start.Statement.{statement}
-use Rattle.records.proofs.start.Tie as tie
+use Rattle.blocks.proofs.start.Statement.{statement}
+use Rattle.blocks.proofs.start.Tie as tie
 
 slice-aggregate-fresh : tie.Need-slice-aggregate-fresh
 slice-aggregate-fresh c = search needs

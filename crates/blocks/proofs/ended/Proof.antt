@@ -1,9 +1,9 @@
 -- `ended` meets its contract, phase by phase. Assumes nothing.
 use mathlib.Core.Path.{ap, sym}
 use Rattle.records.specs.Records.{isEnd}
 use borrow.Author.Needs.{needs}
-use Rattle.records.proofs.ended.Statement.{statement}
-use Rattle.records.proofs.ended.Tie as tie
+use Rattle.blocks.proofs.ended.Statement.{statement}
+use Rattle.blocks.proofs.ended.Tie as tie
 
 enum-told : tie.Need-enum-told
 enum-told c = search needs

@@ -5,12 +5,12 @@ use mathlib.Core.Path.{_≡_, refl, sym, _∙_}
 use lib.ListN.{length}
 use Rattle.table.specs.Words.{Valid}
 use Rattle.table.proofs.Words.{length-valid}
 use Rattle.records.specs.Records.{stateIn}
-use Rattle.records.specs.Steps.{Ran}
-use Rattle.records.proofs.Blocks.{written-length, ran-none, ran-next, ran-stopped}
+use Rattle.blocks.specs.Blocks.{Ran}
+use Rattle.blocks.proofs.Blocks.{written-length, ran-none, ran-next, ran-stopped}
 use borrow.Author.Needs.{needs}
-use Rattle.records.proofs.process.Statement.{statement}
-use Rattle.records.proofs.process.Tie as tie
+use Rattle.blocks.proofs.process.Statement.{statement}
+use Rattle.blocks.proofs.process.Tie as tie
 
 abbrev Inv-loop : tie.InvT-loop
 Inv-loop t₀ input out₀ p₀ t out p = (length t ≡ length t₀) × (length out ≡ length out₀) × Ran (stateIn (p₀ .phase) t₀) input out₀ p (stateIn (p .phase) t) out × Valid t

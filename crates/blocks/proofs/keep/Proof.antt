@@ -4,11 +4,11 @@ use native.Mathlib.Omega.{arith}
 use mathlib.Core.Path.{_≡_, refl, sym, ap, _∙_}
 use mathlib.Core.List.{_++_}
 use lib.ListN.{length, take, drop, length-set}
-use Rattle.records.specs.Steps.{kept}
-use Rattle.records.proofs.Blocks.{length-kept, kept-none, kept-next, kept-all, stored-none}
+use Rattle.blocks.specs.Blocks.{kept}
+use Rattle.blocks.proofs.Blocks.{length-kept, kept-none, kept-next, kept-all, stored-none}
 use borrow.Author.Needs.{needs}
-use Rattle.records.proofs.keep.Statement.{statement}
-use Rattle.records.proofs.keep.Tie as tie
+use Rattle.blocks.proofs.keep.Statement.{statement}
+use Rattle.blocks.proofs.keep.Tie as tie
 
 abbrev Inv-loop : tie.InvT-loop
 Inv-loop block₀ used filled end n i₀ block i =

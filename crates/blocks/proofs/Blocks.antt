@@ -13,13 +13,15 @@ use Rattle.octets.specs.Octets.{stored}
 use Rattle.octets.proofs.Laws.{stored-fits, stored-front, length-stored, front-next, front-all}
 use Rattle.frames.specs.Frames.{Front, nothing, bad, cut, whole, front}
 use Rattle.frames.proofs.Laws.{Found}
 use Rattle.records.specs.declared.Phase.{Phase}
+use Rattle.records.specs.declared.Phase.the-variants.{Ended}
 use Rattle.records.specs.declared.Step.{Step}
-use Rattle.records.specs.declared.Progress.{Progress}
-use Rattle.records.specs.Records.{Bench, stateIn, refused, badLine, turn, isEnd, hasEnded, runFrom, endOf}
-use Rattle.records.specs.Steps.{Written, Stepped, isPart, stopped, Advanced, Ran, Stopped, kept}
-use Rattle.records.proofs.Laws.{run-ended, run-found, run-spoilt, end-ended, run-end-nothing, run-end-cut}
-use Rattle.records.proofs.Turns.{written-none}
+use Rattle.blocks.specs.declared.Progress.{Progress}
+use Rattle.records.specs.Records.{Bench, stateIn, badLine, turn, isEnd, hasEnded, runFrom, endOf}
+use Rattle.records.specs.Steps.{Written, Stepped}
+use Rattle.blocks.specs.Blocks.{isPart, stopped, Advanced, Ran, Stopped, kept}
+use Rattle.blocks.proofs.Runs.{run-ended, run-found, run-spoilt, end-ended, run-end-nothing, run-end-cut}
+use Rattle.records.proofs.Laws.{written-none}
 
 -- ---- octets written at a place: those before it and they themselves, and those after
 
@@ -30,10 +32,10 @@ module _ {d : List ℕ} {at : ℕ} {s : List ℕ} {r : ℕ} {e : List ℕ} (w : 
   laid : e ≡ (take at d ++ s) ++ drop r d
   laid = w .buffer ∙ stored-fits d at s (w .fits) ∙ rw (w .place)
 
-  pub written-upto : take r e ≡ take at d ++ s
+  written-upto : take r e ≡ take at d ++ s
   written-upto = ap (take r) laid ∙ take-at (take at d ++ s) (drop r d) r upto
 
-  pub written-after : drop r e ≡ drop r d
+  written-after : drop r e ≡ drop r d
   written-after = ap (drop r) laid ∙ drop-at (take at d ++ s) (drop r d) r upto
 
   pub written-length : length e ≡ length d
@@ -78,19 +80,18 @@ module _ (b : Bench) (s : List ℕ) (i : ℕ) (d : List ℕ) (w : ℕ) (h : i �
   advanced-none f l q =
       record { line = []; put = written-none d w l; used = h; forward = le-refl i; run = λ r. refl; still = λ z. q }
 
-  pub advanced-bad : (x : Step) (v e : List ℕ) → hasEnded b ≡ false → front (drop i s) ≡ bad → Stepped d w (refused (b .table)) x v e
-      → Advanced b s i d w (record { phase = x .phase; used = length s; wrote = x .at }) (stateIn (x .phase) v) e
+  pub advanced-bad : (v : List ℕ) {n : ℕ} {e : List ℕ} → hasEnded b ≡ false → front (drop i s) ≡ bad → Written d w badLine n e
+      → Advanced b s i d w (record { phase = Ended; used = length s; wrote = n }) (stateIn Ended v) e
   unfolding isEnd
-  advanced-bad x v e n f t =
-      let c = stateIn (x .phase) v in
-      let o : hasEnded c ≡ true = ap hasEnded (t .next) in
+  advanced-bad v {n} {e} g f t =
+      let c = stateIn Ended v in
       record {
         line = badLine;
-        put = t .put;
+        put = t;
         used = le-refl (length s);
         forward = h;
-        run = λ r. run-spoilt b (drop i s) r n f ∙ sym (append-nil badLine) ∙ ap (badLine ++_) (sym (run-ended c (drop (length s) s ++ r) o));
-        still = λ z. stopped-ended c (drop (length s) s) (length d - x .at) o;
+        run = λ r. run-spoilt b (drop i s) r g f ∙ sym (append-nil badLine) ∙ ap (badLine ++_) (sym (run-ended c (drop (length s) s ++ r) refl));
+        still = λ z. stopped-ended c (drop (length s) s) (length d - n) refl;
       }
 
   pub advanced-whole : (k start len : ℕ) (x : Step) (v e : List ℕ) → hasEnded b ≡ false → Found s i k start len
@@ -133,11 +134,6 @@ ran-next {b} {s} {d} {p} {b₁} {e} {q} {b₂} {f} l m a =
 pub ran-stopped : (d : List ℕ) {b : Bench} {s : List ℕ} {i w : ℕ} {e : List ℕ} {q : Progress} {c : Bench} {f : List ℕ} → length e ≡ length d
     → Advanced b s i e w q c f → q .used ≡ i → Stopped s d q c ≡ true
 ran-stopped d {b} {s} {i} {w} {e} {q} {c} {f} l a h = sym (ap (λ (n : ℕ). stopped c (drop (q .used) s) (n - q .wrote)) l) ∙ a .still (sym h)
-
--- ---- words copied
-
-pub copied : (d s : List ℕ) (n : ℕ) → length s ≡ n → length d ≡ n → take n s ++ drop n d ≡ s
-copied d s n e l = front-all d s n e ∙ ap (s ++_) (drop-of-length-le d {i = n} (omega arith)) ∙ append-nil s
 
 -- ---- octets moved to the front
 

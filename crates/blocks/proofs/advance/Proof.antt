@@ -1,11 +1,11 @@
 -- `advance` meets its contract: too little room and an ended run are reasons to stop. Assumes nothing.
 use native.Mathlib.Omega.{arith}
 use mathlib.Core.Path.{sym, _∙_}
 use Rattle.records.specs.Records.{stateIn}
-use Rattle.records.proofs.Blocks.{stopped-ended, stopped-room, advanced-none}
+use Rattle.blocks.proofs.Blocks.{stopped-ended, stopped-room, advanced-none}
 use borrow.Author.Needs.{needs}
-use Rattle.records.proofs.advance.Statement.{statement}
-use Rattle.records.proofs.advance.Tie as tie
+use Rattle.blocks.proofs.advance.Statement.{statement}
+use Rattle.blocks.proofs.advance.Tie as tie
 
 sub-room : tie.Need-sub-room
 sub-room c = search needs
