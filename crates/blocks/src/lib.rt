@@ -3,6 +3,7 @@
 use frames::Frame;
 use records::LINE_ROOM;
 use records::Phase;
+use table::WORDS;
 ghost use mathlib.Core.Path.{_≡_};
 ghost use mathlib.Core.Bool.{true, false};
 ghost use Prim.Native.Nat.{ℕ, _+_, _≤_, min};
@@ -18,7 +19,7 @@ ghost use Rattle.blocks.specs.Blocks.{Advanced, Ran, stopped, Stopped, k
 // The state in which a run starts: the phase, and the words of the table that the run is then lent.
 pub struct Begun {
     pub phase: Phase,
-    pub table: [u32; 139],
+    pub table: [u32; WORDS],
 }
 
 // How far a block of input was taken: the phase, how many octets of input are used, and how many octets of output are made.

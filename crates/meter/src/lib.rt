@@ -2,6 +2,7 @@
 // community's 8, does a number of rounds of one call, and answers a checksum of the answers.
 use election::Answer;
 use returning::Sent;
+use table::WORDS;
 ghost use mathlib.Core.Path.{_≡_};
 ghost use Prim.Native.Nat.{_<_};
 ghost use Rattle.table.specs.Table.{ownerOf};
@@ -66,7 +67,7 @@ fn close(sum: u64, t: &[u32]) -> u64
 }
 
 // The table of an identifier after the announcements of the runs.
-fn loaded(esi: &[u8], runs: &[u8]) -> [u32; 139]
+fn loaded(esi: &[u8], runs: &[u8]) -> [u32; WORDS]
     ensures answer { λ r. ⌜ tableIn r ≡ loadedTable (now (esi .entry)) (now (runs .entry)) ⌝ }
     ensures kept { λ r. ⌜ Valid r ⌝ }
 {

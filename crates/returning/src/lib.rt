@@ -2,6 +2,7 @@
 use address::Address;
 use table::ATTRIBUTES;
 use table::KIND;
+use table::WORDS;
 ghost use mathlib.Core.Path.{_≡_};
 ghost use Rattle.table.specs.Table.{live};
 ghost use Rattle.table.specs.Words.{tableIn, Valid};
@@ -78,13 +79,13 @@ fn beside(others: &[u32], algorithm: u8, preference: u16, dp: bool) -> Sent
 }
 
 // The words of a table, to be changed apart from it.
-fn copied(t: &[u32]) -> [u32; 139]
+fn copied(t: &[u32]) -> [u32; WORDS]
     requires { ⌜ Valid (now t) ⌝ }
     ensures { λ r. ⌜ r ≡ now (t .entry) ⌝ }
 {
-    let mut words = [0u32; 139];
+    let mut words = [0u32; WORDS];
     let mut i = 0;
-    while i < 139 {
+    while i < WORDS {
         words[i] = t[i];
         i += 1;
     }

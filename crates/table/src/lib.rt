@@ -23,6 +23,9 @@ pub const MAX_ROUTES: usize = 64;
 // The preference that a configuration would start from (RFC 9785); no rule of the table uses it.
 pub const DEFAULT_PREFERENCE: u16 = 32767;
 
+// How many words a table has.
+pub const WORDS: usize = 139;
+
 // Where the parts of a table start in its words; the addresses start at 0.
 pub const ATTRIBUTES: usize = 64;
 
@@ -36,7 +39,7 @@ pub const KIND: u32 = 131072;
 // A fresh table: 0 or a refusal number, and the words of the table.
 pub struct Made {
     pub number: u8,
-    pub table: [u32; 139],
+    pub table: [u32; WORDS],
 }
 
 // The answer to an announcement: 0 or a refusal number, and the place that a route's refusal speaks of (else 0).
@@ -82,7 +85,7 @@ pub fn fresh(esi: &[u8]) -> Made
     ensures answer { λ r. ⌜ Told (freshTable (now (esi .entry))) (r .number) 0 (r .table) ⌝ }
     ensures kept { λ r. ⌜ Valid (r .table) ⌝ }
 {
-    let mut words = [0u32; 139];
+    let mut words = [0u32; WORDS];
     if esi::is_reserved(esi) {
         return Made {
             number: 4,

@@ -2,6 +2,7 @@
 // definitions", those without a star), the places of document 02's M-103, the worked examples of RFC 9785, sections 4.1 and 4.3, and the check
 // value of CRC-32.
 use libc::STDOUT_FILENO;
+use table::WORDS;
 ghost use Rattle.table.specs.Words.{Valid};
 
 // ---- one line for one value
@@ -76,7 +77,7 @@ fn identifier() -> [u8; 10] {
 
 // A table of one segment.
 struct Table {
-    words: [u32; 139],
+    words: [u32; WORDS],
 }
 
 // What an announcement answers, and the table after it.
