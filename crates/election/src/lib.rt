@@ -315,11 +315,11 @@ fn elect_all(t: &[u32], algorithm: u8, tag: u32) -> Answer
     ensures counted { λ r. ⌜ r .n ≡ ones (r .candidates) ⌝ }
 {
     let many = table::count(t);
-    let n = many as u32;
-    if n == 0 {
+    if many == 0 {
         return refusal(12);
     }
-    let set = places::below(many);
+    let all = places::below(many);
+    let n = places::count(all);
     let mut at = 64;
     if algorithm == 0 {
         at = (tag % n) as usize;
@@ -327,7 +327,7 @@ fn elect_all(t: &[u32], algorithm: u8, tag: u32) -> Answer
         let digest = digest_under(t, algorithm, tag);
         at = best_in_use(t, algorithm, digest);
     }
-    named(t[at], algorithm, n, set)
+    named(t[at], algorithm, n, all)
 }
 
 // The answer with AC-DF in use, where those on the ready list are candidates: 12 where there is none. N is the number of the ones of their set.
