@@ -1,39 +1,12 @@
--- What the answers of `compare` and `is_zero` say of the keys. Assumes nothing.
-use Prim.Native.Nat.{ℕ, _≤_, _<_}
+-- Laws of addresses and of the rows that they are kept as. Assumes nothing.
+use Prim.Native.Nat.{ℕ, _≤_, _*_, _^_}
 use native.Mathlib.Omega.{arith}
 use mathlib.Core.Path.{_≡_, refl}
-use mathlib.Core.Bool.{Bool, true, false, cond}
-use lib.Dec.{ltb, eqb}
-use borrow.Author.Tests.{ltb-true, ltb-false, eqb-true, eqb-false}
-use Rattle.address.specs.Address.{addressKey, isZero, orderOf}
-use Rattle.address.specs.declared.Order.the-variants.{Less, Equal, Greater}
-
-pub less : (j k : ℕ) → orderOf j k ≡ Less → j < k
-unfolding orderOf
-less j k h = go (ltb j k) (eqb j k) refl h
-  where
-    go : (l e : Bool) → ltb j k ≡ l → cond l Less (cond e Equal Greater) ≡ Less → j < k
-    go true e p q = ltb-true j k p
-    go false true p q = let z : _≡_ {A = ℕ} 0 1 = cc in absurd (omega arith)
-    go false false p q = let z : _≡_ {A = ℕ} 0 1 = cc in absurd (omega arith)
-
-pub equal : (j k : ℕ) → orderOf j k ≡ Equal → j ≡ k
-unfolding orderOf
-equal j k h = go (ltb j k) (eqb j k) refl h
-  where
-    go : (l e : Bool) → eqb j k ≡ e → cond l Less (cond e Equal Greater) ≡ Equal → j ≡ k
-    go true e p q = let z : _≡_ {A = ℕ} 0 1 = cc in absurd (omega arith)
-    go false true p q = eqb-true j k p
-    go false false p q = let z : _≡_ {A = ℕ} 0 1 = cc in absurd (omega arith)
-
-pub greater : (j k : ℕ) → orderOf j k ≡ Greater → k < j
-unfolding orderOf
-greater j k h = go (ltb j k) (eqb j k) refl refl h
-  where
-    go : (l e : Bool) → ltb j k ≡ l → eqb j k ≡ e → cond l Less (cond e Equal Greater) ≡ Greater → k < j
-    go true e p r q = let z : _≡_ {A = ℕ} 0 1 = cc in absurd (omega arith)
-    go false true p r q = let z : _≡_ {A = ℕ} 0 1 = cc in absurd (omega arith)
-    go false false p r q = omega (arith, ltb-false j k p, eqb-false j k r)
+use mathlib.Core.Bool.{false}
+use lib.ListN.{length}
+use borrow.Author.Tests.{eqb-false}
+use Rattle.rows.specs.Rows.{rowKey}
+use Rattle.address.specs.Address.{addressKey, isZero, addressRow, addressIn}
 
 pub not-zero : (a : ℕ) → isZero a ≡ false → 1 ≤ addressKey a
 unfolding isZero
@@ -42,3 +15,16 @@ not-zero a h = let n : addressKey a ≡ 0 → ⊥ = eqb-false (addressKey a) 0 h
 pub key-injective : (a b : ℕ) → addressKey a ≡ addressKey b → a ≡ b
 unfolding addressKey
 key-injective a b h = h
+
+-- a row has the address's key, its width, and says the address again
+pub row-key : (a : ℕ) → rowKey (addressRow a) ≡ addressKey a
+unfolding rowKey addressRow addressKey
+row-key a = omega arith
+
+pub row-length : (a : ℕ) → length (addressRow a) ≡ 1
+unfolding addressRow
+row-length a = refl
+
+pub row-back : (a : ℕ) → addressIn (addressRow a) ≡ a
+unfolding addressRow addressIn
+row-back a = refl

@@ -1,5 +1,2 @@
-pub mod Laws
-pub mod Words
-pub mod Stores
 pub mod Calls
 pub mod Told

@@ -3,26 +3,28 @@ use Prim.Native.Nat.{ℕ, _≤_, _<_}
 use native.Mathlib.Omega.{arith}
 use mathlib.Core.Path.{_≡_, refl, ap, _∙_, sym, subst}
 use mathlib.Core.Bool.{Bool, true, false, cond}
-use mathlib.Core.List.{List, [], _++_}
-use lib.ListN.{length, take, drop, length-drop, replicate}
+use mathlib.Core.List.{List, [], _∷_, _++_}
+use lib.ListN.{length, getD, set, take, drop, length-drop, replicate}
 use lib.Seq.{length-take-le}
 use lib.Dec.{eqb}
-use borrow.Author.Tests.{eqb-true}
-use Rattle.address.specs.Address.{addressKey, isZero}
+use Rattle.address.specs.Address.{addressKey, addressRow, isZero}
+use Rattle.address.proofs.Laws.{key-injective}
 use Rattle.esi.specs.Reserved.{reserved}
 use Rattle.route.specs.Route.{routeAddress, routeNumber, Fault}
 use Rattle.community.specs.declared.Election.{Election}
 use Rattle.community.specs.Community.{electionIn, readList}
 use Rattle.community.specs.declared.ListRead.{ListRead}
 use Rattle.community.proofs.Laws.{list-accepted}
-use Rattle.keyed.specs.Keyed.{padded, has, insert, remove, Every}
+use Rattle.keyed.specs.Keyed.{spliced, cut, has, insert, remove, Every}
 use Rattle.keyed.proofs.Keyed as keyed
-use Rattle.table.specs.Table.{Entry, Table, Change, keyOf, entryOf, live, tableOf, WellFormed, ownerOf, announceNumber, withdrawNumber, freshTable, announced, withdrawn}
-use Rattle.table.specs.Words.{attributesOf, entryIn, wordsOf, tableIn, Octets, Valid, Told}
-use Rattle.table.specs.Steps.{Packed, replaced, grown, shrunk, foundIn, Stored, admitted}
-use Rattle.table.specs.declared.Found.the-variants.{At, Missing}
-use Rattle.table.proofs.Laws.{live-of}
-use Rattle.table.proofs.Words.{Narrow, entry-back, table-in, valid-of, narrow-live}
+use Rattle.rows.specs.Rows.{column, flat, foundIn}
+use Rattle.rows.specs.declared.Found.the-variants.{At, Missing}
+use Rattle.rows.proofs.Places.{present-at}
+use Rattle.layout.specs.Table.{Entry, entryKey, noEntry, entryOf, Table, tableOf, WellFormed, ownerOf}
+use Rattle.layout.specs.Words.{attributesOf, kindOf, standingOf, entryIn, wordsOf, tableIn, Octets, Valid, Packed}
+use Rattle.layout.proofs.Words.{Narrow, entry-back, table-in, valid-of, narrow-entries}
+use Rattle.table.specs.Table.{Change, announceNumber, withdrawNumber, freshTable, announced, withdrawn, Told}
+use Rattle.table.specs.Steps.{Stored, admitted}
 use Rattle.table.proofs.Calls as calls
 
 -- a step's answer, told by its number and the words of its table
@@ -35,20 +37,8 @@ told-change c n p b o = rw (o .0, o .1, o .2)
 
 -- FRESH
 empty-words : (i : List ℕ) → wordsOf (tableOf i []) ≡ replicate 129 0 ++ i
-unfolding wordsOf padded attributesOf
+unfolding wordsOf column flat
 empty-words i = refl
-
-empty-formed : (i j : List ℕ) → ownerOf i ≡ j → WellFormed (tableOf j [])
-unfolding freshTable
-empty-formed i j e = subst (λ (k : List ℕ). WellFormed (tableOf k [])) e (calls.fresh-kept i)
-
-empty-table : (i j : List ℕ) → ownerOf i ≡ j → tableIn (replicate 129 0 ++ j) ≡ tableOf j []
-unfolding Every
-empty-table i j e = ap tableIn (sym (empty-words j)) ∙ table-in (tableOf j []) (empty-formed i j e) tt
-
-empty-valid : (i j : List ℕ) → ownerOf i ≡ j → Octets j → Valid (replicate 129 0 ++ j)
-unfolding Every
-empty-valid i j e o = subst Valid (empty-words j) (valid-of (tableOf j []) (empty-formed i j e) tt o)
 
 zero-octets : Octets (replicate 10 0)
 unfolding Every
@@ -59,8 +49,10 @@ module _ (i : List ℕ) where
   Fresh n b = Told (freshTable i) n 0 b × Valid b
 
   fresh-told : (n : ℕ) (j : List ℕ) → cond (reserved i) 4 0 ≡ n → ownerOf i ≡ j → Octets j → Fresh n (replicate 129 0 ++ j)
-  unfolding freshTable
-  fresh-told n j e f o = ((sym e, refl, empty-table i j f ∙ ap (λ (k : List ℕ). tableOf k []) (sym f)), empty-valid i j f o)
+  unfolding freshTable Every
+  fresh-told n j e f o =
+      let w : WellFormed (tableOf j []) = subst (λ (k : List ℕ). WellFormed (tableOf k [])) f (calls.fresh-kept i) in
+      ((sym e, refl, ap tableIn (sym (empty-words j)) ∙ table-in (tableOf j []) (w .short) tt ∙ ap (λ (k : List ℕ). tableOf k []) (sym f)), subst Valid (empty-words j) (valid-of (tableOf j []) w tt o))
 
   pub fresh-reserved : reserved i ≡ true → Fresh 4 (replicate 139 0)
   unfolding ownerOf
@@ -71,42 +63,51 @@ module _ (i : List ℕ) where
   fresh-accepted b h o q = subst (Fresh 0) (sym q) (fresh-told 0 i (rw h) (rw h) o)
 
 -- AN ENTRY and its words
-packed-entry : (a w : ℕ) (e : Election) → Packed e w → entryIn a w ≡ entryOf a e
-unfolding attributesOf
-packed-entry a w e p = ap (entryIn a) (p .0) ∙ entry-back (entryOf a e) (p .1)
+packed-entry : (a w : ℕ) (e : Election) → Packed e w → entryIn (addressRow a) (w ∷ []) ≡ entryOf a e
+unfolding attributesOf kindOf standingOf
+packed-entry a w e p = ap (λ (v : ℕ). entryIn (addressRow a) (v ∷ [])) (p .0) ∙ entry-back (entryOf a e) (p .1)
 
 module _ (b : List ℕ) (h : Valid b) where
   abbrev t : Table
   t = tableIn b
+
+  abbrev es : List Entry
+  es = t .entries
 
   unchanged : (c : Change) (n p : ℕ) → record { number = n; place = p; table = t } ≡ c → Told c n p b
   unchanged c n p e = (ap (λ (y : Change). y .number) e, ap (λ (y : Change). y .place) e, ap (λ (y : Change). y .table) e)
 
   -- AN ENTRY that passed the checks before the last
   module _ (a w i : ℕ) (e : Election) (p : Packed e w) where
-    pub told-at : foundIn (addressKey a) (live t) ≡ At i → (x : List ℕ) → x ≡ wordsOf (replaced t i (entryIn a w)) → Stored (admitted t (entryOf a e)) 0 x
+    -- the address that is found stands there already
+    same-entry : foundIn entryKey (addressKey a) es ≡ At i → entryIn (addressRow (getD es i noEntry .address)) (w ∷ []) ≡ entryOf a e
+    same-entry f =
+        let k = key-injective (getD es i noEntry .address) a (present-at entryKey (addressKey a) es 1 noEntry (h .sound .rising) i f .1) in
+        ap (λ (x : ℕ). entryIn (addressRow x) (w ∷ [])) k ∙ packed-entry a w e p
+
+    pub told-at : foundIn entryKey (addressKey a) es ≡ At i → (x : List ℕ) → x ≡ wordsOf (tableOf (t .esi) (set es i (entryIn (addressRow (getD es i noEntry .address)) (w ∷ [])))) → Stored (admitted t (entryOf a e)) 0 x
     told-at f x q =
-        stored-of (admitted t (entryOf a e)) _ x (calls.admitted-at t (h .sound) (entryOf a e) i f) (q ∙ ap (λ (y : Entry). wordsOf (replaced t i y)) (packed-entry a w e p))
+        stored-of (admitted t (entryOf a e)) _ x (calls.admitted-at t (h .sound) (entryOf a e) i f) (q ∙ ap (λ (y : Entry). wordsOf (tableOf (t .esi) (set es i y))) (same-entry f))
 
-    pub told-new : foundIn (addressKey a) (live t) ≡ Missing i → t .count < 64 → (x : List ℕ) → x ≡ wordsOf (grown t i (entryIn a w)) → Stored (admitted t (entryOf a e)) 0 x
+    pub told-new : foundIn entryKey (addressKey a) es ≡ Missing i → length es < 64 → (x : List ℕ) → x ≡ wordsOf (tableOf (t .esi) (spliced es i (entryIn (addressRow a) (w ∷ [])))) → Stored (admitted t (entryOf a e)) 0 x
     told-new f s x q =
-        stored-of (admitted t (entryOf a e)) _ x (calls.admitted-new t (h .sound) (entryOf a e) i f s) (q ∙ ap (λ (y : Entry). wordsOf (grown t i y)) (packed-entry a w e p))
+        stored-of (admitted t (entryOf a e)) _ x (calls.admitted-new t (h .sound) (entryOf a e) i f s) (q ∙ ap (λ (y : Entry). wordsOf (tableOf (t .esi) (spliced es i y))) (packed-entry a w e p))
 
-    pub told-full : foundIn (addressKey a) (live t) ≡ Missing i → 64 ≤ t .count → Stored (admitted t (entryOf a e)) 8 b
+    pub told-full : foundIn entryKey (addressKey a) es ≡ Missing i → 64 ≤ length es → Stored (admitted t (entryOf a e)) 8 b
     told-full f s = stored-of (admitted t (entryOf a e)) _ b (calls.admitted-full t (h .sound) (entryOf a e) i f s) (h .whole)
 
-  -- the words stay a table's
-  stored-valid : (c : Change) (n : ℕ) (x : List ℕ) → Stored c n x → WellFormed (c .table) → Every Narrow (live (c .table)) → c .table .esi ≡ t .esi
+  -- THE WORDS stay a table's
+  stored-valid : (c : Change) (n : ℕ) (x : List ℕ) → Stored c n x → WellFormed (c .table) → Every Narrow (c .table .entries) → c .table .esi ≡ t .esi
       → (tableIn x ≡ c .table) × Valid x
   stored-valid c n x o k m e =
-      (ap tableIn (o .1) ∙ table-in (c .table) k m, subst Valid (sym (o .1)) (valid-of (c .table) k m (subst Octets (sym e) (h .octets))))
+      (ap tableIn (o .1) ∙ table-in (c .table) (k .short) m, subst Valid (sym (o .1)) (valid-of (c .table) k m (subst Octets (sym e) (h .octets))))
 
-  narrow-change : (n : ℕ) (l : List Entry) → (n ≡ 0 → length l ≤ 64) → (n ≡ 0 → Every Narrow l) → Every Narrow (live (cond (eqb n 0) (tableOf (t .esi) l) t))
-  narrow-change n l s m = go (eqb n 0) refl
+  narrow-change : (n : ℕ) (l : List Entry) → Every Narrow l → Every Narrow (cond (eqb n 0) (tableOf (t .esi) l) t .entries)
+  narrow-change n l m = go (eqb n 0)
     where
-      go : (v : Bool) → eqb n 0 ≡ v → Every Narrow (live (cond v (tableOf (t .esi) l) t))
-      go true e = subst (Every Narrow) (sym (live-of (t .esi) l (s (eqb-true n 0 e)))) (m (eqb-true n 0 e))
-      go false e = narrow-live b h
+      go : (v : Bool) → Every Narrow (cond v (tableOf (t .esi) l) t .entries)
+      go true = m
+      go false = narrow-entries b h
 
   same-esi : (n : ℕ) (l : List Entry) → cond (eqb n 0) (tableOf (t .esi) l) t .esi ≡ t .esi
   same-esi n l = go (eqb n 0)
@@ -124,17 +125,17 @@ module _ (b : List ℕ) (h : Valid b) where
     unfolding withdrawn
     withdrawn-valid n x o =
         let k = stored-valid (withdrawn t a) n x o (calls.withdrawn-kept t (h .sound) a)
-        (narrow-change (withdrawNumber a (has keyOf (addressKey a) (live t))) (remove keyOf (addressKey a) (live t)) (λ _. calls.removed-short t (h .sound) (addressKey a)) (λ _. keyed.every-remove keyOf Narrow (addressKey a) (live t) (narrow-live b h)))
-        (same-esi (withdrawNumber a (has keyOf (addressKey a) (live t))) (remove keyOf (addressKey a) (live t))) in
+        (narrow-change (withdrawNumber a (has entryKey (addressKey a) es)) (remove entryKey (addressKey a) es) (keyed.every-remove entryKey Narrow (addressKey a) es (narrow-entries b h)))
+        (same-esi (withdrawNumber a (has entryKey (addressKey a) es)) (remove entryKey (addressKey a) es)) in
         ((o .0, refl, k .0), k .1)
 
     pub withdrawn-zero : isZero a ≡ true → Withdrawn 6 b
     withdrawn-zero z = (unchanged (withdrawn t a) 6 0 (calls.withdrawn-zero t (h .sound) a z), h)
 
-    pub withdrawn-missing : (i : ℕ) → isZero a ≡ false → foundIn (addressKey a) (live t) ≡ Missing i → Withdrawn 9 b
+    pub withdrawn-missing : (i : ℕ) → isZero a ≡ false → foundIn entryKey (addressKey a) es ≡ Missing i → Withdrawn 9 b
     withdrawn-missing i z f = (unchanged (withdrawn t a) 9 0 (calls.withdrawn-missing t (h .sound) a i z f), h)
 
-    pub withdrawn-at : (i : ℕ) → isZero a ≡ false → foundIn (addressKey a) (live t) ≡ At i → (x : List ℕ) → x ≡ wordsOf (shrunk t i) → Withdrawn 0 x
+    pub withdrawn-at : (i : ℕ) → isZero a ≡ false → foundIn entryKey (addressKey a) es ≡ At i → (x : List ℕ) → x ≡ wordsOf (tableOf (t .esi) (cut es i)) → Withdrawn 0 x
     withdrawn-at i z f x q = withdrawn-valid 0 x (stored-of (withdrawn t a) _ x (calls.withdrawn-at t (h .sound) a i z f) q)
 
   -- ANNOUNCEMENTS
@@ -150,7 +151,10 @@ module _ (b : List ℕ) (h : Valid b) where
     announced-refused n p e = let o = unchanged (announced t r c) n p e in (o, (h, announced-fault n p b o))
 
     abbrev number : ℕ
-    number = announceNumber (t .esi) r c (has keyOf (addressKey (routeAddress r)) (live t)) (length (live t))
+    number = announceNumber (t .esi) r c (has entryKey (addressKey (routeAddress r)) es) (length es)
+
+    abbrev added : List Entry
+    added = insert entryKey (entryOf (routeAddress r) (electionIn c)) es
 
     pub announced-admitted : (a n : ℕ) (e : Election) (x : List ℕ) → admitted t (entryOf a e) ≡ announced t r c → 0 ≡ admitted t (entryOf a e) .place → electionIn c ≡ e → Stored (admitted t (entryOf a e)) n x → e .preference < 65536 → Announced n 0 x
     unfolding announced
@@ -159,10 +163,8 @@ module _ (b : List ℕ) (h : Valid b) where
         let q : electionIn c .preference < 65536 = rw g m in
         let k =
         stored-valid (announced t r c) n x s (calls.announced-kept t (h .sound) r c)
-        (narrow-change number (insert keyOf (entryOf (routeAddress r) (electionIn c)) (live t))
-        (calls.inserted-short t (h .sound) r c)
-        (λ _. keyed.every-insert keyOf Narrow (entryOf (routeAddress r) (electionIn c)) (live t) q (narrow-live b h)))
-        (same-esi number (insert keyOf (entryOf (routeAddress r) (electionIn c)) (live t))) in
+        (narrow-change number added (keyed.every-insert entryKey Narrow (entryOf (routeAddress r) (electionIn c)) es q (narrow-entries b h)))
+        (same-esi number added) in
         let told : Told (announced t r c) n 0 x = (s .0, z ∙ ap (λ (y : Change). y .place) f, k .0) in
         (told, (k .1, announced-fault n 0 x told))
 

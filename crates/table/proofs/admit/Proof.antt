@@ -2,8 +2,9 @@
 use native.Mathlib.Omega.{arith}
 use mathlib.Core.Path.{sym, _∙_}
 use Rattle.address.specs.Address.{addressKey}
-use Rattle.table.specs.Words.{tableIn}
-use Rattle.table.proofs.Calls.{at-count, missing-count}
+use Rattle.layout.specs.Words.{tableIn}
+use Rattle.rows.proofs.Places.{at-lt, missing-le}
+use Rattle.layout.specs.Table.{entryKey, noEntry}
 use Rattle.table.proofs.Told.{told-at, told-new, told-full}
 use borrow.Author.Needs.{needs}
 use Rattle.table.proofs.admit.Statement.{statement}
@@ -22,7 +23,7 @@ replace-requires : tie.Need-replace-requires
 replace-requires c κs =
     let start = c .before .before .before .before .before .before .before .before in
     let b = start .args .t .now in
-    (start .pre, at-count (tableIn b) (start .pre .sound) (addressKey (start .args .address)) _ (sym (c .before .before .before .before .find .ensures) ∙ c .before .before .found .given .1))
+    (start .pre, at-lt entryKey (addressKey (start .args .address)) (tableIn b .entries) 1 noEntry (start .pre .sound .rising) _ (sym (c .before .before .before .before .find .ensures) ∙ c .before .before .found .given .1))
 
 enum-known-found-2 : tie.Need-enum-known-found-2
 enum-known-found-2 c = search needs
@@ -44,7 +45,7 @@ grow-requires : tie.Need-grow-requires
 grow-requires c κs =
     let start = c .before .before .before .before .before .before .before .before .before .before .before in
     let b = start .args .t .now in
-    (start .pre, missing-count (tableIn b) (start .pre .sound) (addressKey (start .args .address)) _ (sym (c .before .before .before .before .before .before .before .find .ensures) ∙ c .before .before .before .before .before .found2 .given .1), rw (← c .before .before .count .ensures) (omega arith))
+    (start .pre, missing-le entryKey (addressKey (start .args .address)) (tableIn b .entries) _ (sym (c .before .before .before .before .before .before .before .find .ensures) ∙ c .before .before .before .before .before .found2 .given .1), rw (← c .before .before .count .ensures) (omega arith))
 
 same-length-2 : tie.Need-same-length-2
 same-length-2 c = search needs

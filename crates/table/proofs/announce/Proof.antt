@@ -6,7 +6,7 @@ use denote.Ref.{now}
 use lib.ListN.{length}
 use Rattle.route.specs.Route.{routeEsi}
 use Rattle.route.proofs.Laws.{route-length, told-originator}
-use Rattle.table.specs.Words.{tableIn}
+use Rattle.layout.specs.Words.{tableIn}
 use Rattle.table.proofs.Calls as calls
 use Rattle.table.proofs.Told.{announced-refused, announced-admitted, admitted-place, list-says, length-part}
 use borrow.Author.Needs.{needs}

@@ -1,8 +1,9 @@
 -- `withdraw` meets its contract: `find` says which case of `withdrawn` holds. Assumes nothing.
 use mathlib.Core.Path.{sym, _∙_}
 use Rattle.address.specs.Address.{addressKey}
-use Rattle.table.specs.Words.{tableIn}
-use Rattle.table.proofs.Calls.{at-count}
+use Rattle.layout.specs.Words.{tableIn}
+use Rattle.rows.proofs.Places.{at-lt}
+use Rattle.layout.specs.Table.{entryKey, noEntry}
 use Rattle.table.proofs.Told.{withdrawn-zero, withdrawn-missing, withdrawn-at}
 use borrow.Author.Needs.{needs}
 use Rattle.table.proofs.withdraw.Statement.{statement}
@@ -37,7 +38,7 @@ shrink-requires : tie.Need-shrink-requires
 shrink-requires c κs =
     let start = c .before .before .before .before .before .before .before .before .before in
     let b = start .args .t .now in
-    (start .pre, at-count (tableIn b) (start .pre .sound) (addressKey (start .args .address)) _ (sym (c .before .before .before .before .find .ensures) ∙ c .before .before .found .given .1))
+    (start .pre, at-lt entryKey (addressKey (start .args .address)) (tableIn b .entries) 1 noEntry (start .pre .sound .rising) _ (sym (c .before .before .before .before .find .ensures) ∙ c .before .before .found .given .1))
 
 same-length-2 : tie.Need-same-length-2
 same-length-2 c = search needs

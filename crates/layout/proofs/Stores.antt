@@ -1,0 +1,205 @@
+-- What the stores into a table's words make of the table: an entry's attributes replaced, an entry put in or taken out. Assumes nothing.
+use Prim.Native.Nat.{ℕ, zero, suc, _+_, _-_, _*_, _/_, _%_, _≤_, _<_}
+use native.Mathlib.Omega.{arith}
+use native.Mathlib.Nat.{zero-add, suc-add}
+use mathlib.Core.Path.{_≡_, refl, ap, ap₂, _∙_, sym}
+use mathlib.Core.List.{List, [], _∷_, _++_, map, map-append, append-nil}
+use lib.ListN.{length, getD, take, drop, set, length-append, length-drop, length-map, length-set, drop-of-length-le}
+use lib.Seq.{take-at, drop-at, take-all}
+use borrow.Rule.Slice.PartMut.{putMid, same-len-mid}
+use lib.Dec.{eqb}
+use Rattle.address.specs.Address.{addressRow}
+use Rattle.address.proofs.Laws.{row-length, row-back}
+use Rattle.keyed.specs.Keyed.{spliced, cut}
+use Rattle.keyed.proofs.Keyed as keyed
+use Rattle.rows.specs.Rows.{column, inserted, removed}
+use Rattle.rows.proofs.Columns.{Wide, length-column, column-inserted, column-removed, column-set}
+use Rattle.layout.specs.Table.{Entry, noEntry, Table, tableOf}
+use Rattle.layout.specs.Words.{bit, kindOf, standingOf, attributesOf, addressColumn, attributeColumn, entryIn, wordsOf}
+use Rattle.layout.proofs.Words.{wide-addresses, wide-attributes}
+
+-- LISTS
+module _ {A : Type 0} where
+  set-append-add : (xs ys : List A) (n i : ℕ) (v : A) → length xs ≡ n → set (xs ++ ys) (n + i) v ≡ xs ++ set ys i v
+  set-append-add [] ys zero i v h = rw (zero-add i)
+  set-append-add [] ys (suc n) i v h = absurd (omega arith)
+  set-append-add (x ∷ xs) ys zero i v h = absurd (omega arith)
+  set-append-add (x ∷ xs) ys (suc n) i v h = rw (suc-add n i) (ap (x ∷_) (set-append-add xs ys n i v (omega arith)))
+
+module _ {A B : Type 0} (f : A → B) where
+  map-set : (l : List A) (i : ℕ) (x : A) → map f (set l i x) ≡ set (map f l) i (f x)
+  map-set [] i x = refl
+  map-set (y ∷ l) zero x = refl
+  map-set (y ∷ l) (suc i) x = ap (f y ∷_) (map-set l i x)
+
+  map-take : (n : ℕ) (l : List A) → map f (take n l) ≡ take n (map f l)
+  map-take zero l = refl
+  map-take (suc n) [] = refl
+  map-take (suc n) (x ∷ l) = ap (f x ∷_) (map-take n l)
+
+  map-drop : (n : ℕ) (l : List A) → map f (drop n l) ≡ drop n (map f l)
+  map-drop zero l = refl
+  map-drop (suc n) [] = refl
+  map-drop (suc n) (x ∷ l) = map-drop n l
+
+  map-spliced : (l : List A) (i : ℕ) (x : A) → map f (spliced l i x) ≡ spliced (map f l) i (f x)
+  unfolding spliced
+  map-spliced l i x = map-append f (take i l) (x ∷ drop i l) ∙ rw (map-take i l, map-drop i l)
+
+  map-cut : (l : List A) (i : ℕ) → map f (cut l i) ≡ cut (map f l) i
+  unfolding cut
+  map-cut l i = map-append f (take i l) (drop (suc i) l) ∙ rw (map-take i l, map-drop (suc i) l)
+
+  set-same : (l : List A) (i : ℕ) (x d : A) → i < length l → f x ≡ f (getD l i d) → set (map f l) i (f x) ≡ map f l
+  set-same [] i x d h e = refl
+  set-same (y ∷ l) zero x d h e = rw e
+  set-same (y ∷ l) (suc i) x d h e = ap (f y ∷_) (set-same l i x d (omega arith) e)
+
+-- A PART that goes on to the end
+pub part-all : (g : List ℕ) → take (length g - 64) (drop 64 g) ≡ drop 64 g
+part-all g = take-all (length g - 64) (drop 64 g) (omega (arith, length-drop 64 g))
+
+put-all : (g d : List ℕ) → putMid 64 (length g - 64) g d ≡ take 64 g ++ d
+put-all g d =
+    let e : drop (length g - 64) (drop 64 g) ≡ [] = drop-of-length-le (drop 64 g) {i = length g - 64} (omega (arith, length-drop 64 g)) in
+    rw e (ap (take 64 g ++_) (append-nil d))
+
+pub put-length : (g d : List ℕ) → 64 ≤ length g → length d ≡ length (take (length g - 64) (drop 64 g)) → length (putMid 64 (length g - 64) g d) ≡ length g
+put-length g d h n = same-len-mid 64 (length g - 64) g d n
+
+-- AN ENTRY of any words
+attributes-back : (r : List ℕ) (w : ℕ) → attributesOf (entryIn r (w ∷ [])) ≡ w
+unfolding attributesOf kindOf standingOf entryIn
+attributes-back r w =
+    let c : bit (eqb (w / 131072 % 2) 1) ≡ w / 131072 % 2 = bit-of-bit (w / 131072 % 2) (omega arith) in
+    let d : bit (eqb (w % 131072 % 2) 1) ≡ w % 131072 % 2 = bit-of-bit (w % 131072 % 2) (omega arith) in
+    let k : w / 131072 / 2 * 2 + w / 131072 % 2 ≡ w / 131072 = omega arith in
+    let l : w % 131072 / 2 * 2 + w % 131072 % 2 ≡ w % 131072 = omega arith in
+    rw (c, d, k, l) (omega arith)
+  where
+    bit-of-bit : (n : ℕ) → n < 2 → bit (eqb n 1) ≡ n
+    bit-of-bit zero h = refl
+    bit-of-bit (suc zero) h = refl
+    bit-of-bit (suc (suc n)) h = absurd (omega arith)
+
+address-back : (a : ℕ) (w : List ℕ) → entryIn (addressRow a) w .address ≡ a
+unfolding entryIn
+address-back a w = row-back a
+
+-- THE WORDS b of a table of the identifier i with the entries es
+module _ (b i : List ℕ) (es : List Entry) (short : length es ≤ 64) (whole : b ≡ wordsOf (tableOf i es)) where
+  abbrev rowOf : Entry → List ℕ
+  rowOf e = addressRow (e .address)
+
+  abbrev wordOf : Entry → List ℕ
+  wordOf e = attributesOf e ∷ []
+
+  abbrev tail : ℕ → List ℕ
+  tail n = n ∷ i
+
+  -- the two columns and what follows them
+  abbrev Parts : List ℕ → List Entry → List Entry → ℕ → Type 0
+  Parts g l m n = g ≡ column 1 64 (addressColumn l) ++ (column 1 64 (attributeColumn m) ++ tail n)
+
+  parts : Parts b es es (length es)
+  unfolding wordsOf
+  parts = whole
+
+  length-first : (l : List Entry) → length l ≤ 64 → length (column 1 64 (addressColumn l)) ≡ 64
+  length-first l s = length-column 1 64 (addressColumn l) (wide-addresses l) (omega (arith, length-map l rowOf))
+
+  length-second : (l : List Entry) → length l ≤ 64 → length (column 1 64 (attributeColumn l)) ≡ 64
+  length-second l s = length-column 1 64 (attributeColumn l) (wide-attributes l) (omega (arith, length-map l wordOf))
+
+  -- the part behind the addresses
+  behind : (g : List ℕ) (l m : List Entry) (n : ℕ) → length l ≤ 64 → Parts g l m n → drop 64 g ≡ column 1 64 (attributeColumn m) ++ tail n
+  behind g l m n s e = ap (drop 64) e ∙ drop-at (column 1 64 (addressColumn l)) _ 64 (length-first l s)
+
+  before : (g : List ℕ) (l m : List Entry) (n : ℕ) → length l ≤ 64 → Parts g l m n → take 64 g ≡ column 1 64 (addressColumn l)
+  before g l m n s e = ap (take 64) e ∙ take-at (column 1 64 (addressColumn l)) _ 64 (length-first l s)
+
+  -- another count
+  counted : (l m : List Entry) (n v : ℕ) → length l ≤ 64 → length m ≤ 64 → set (column 1 64 (addressColumn l) ++ (column 1 64 (attributeColumn m) ++ tail n)) 128 v ≡ column 1 64 (addressColumn l) ++ (column 1 64 (attributeColumn m) ++ tail v)
+  counted l m n v s q =
+      set-append-add (column 1 64 (addressColumn l)) _ 64 64 v (length-first l s)
+      ∙ ap (column 1 64 (addressColumn l) ++_) (set-append-add (column 1 64 (attributeColumn m)) (tail n) 64 0 v (length-second m q))
+
+  -- OTHER ATTRIBUTES
+  pub replaced-words : (at w : ℕ) → at < length es → set b (64 + at) w ≡ wordsOf (tableOf i (set es at (entryIn (rowOf (getD es at noEntry)) (w ∷ []))))
+  unfolding wordsOf
+  replaced-words at w l =
+      let e = entryIn (rowOf (getD es at noEntry)) (w ∷ []) in
+      ap (λ (g : List ℕ). set g (64 + at) w) parts
+      ∙ set-append-add (column 1 64 (addressColumn es)) _ 64 at w (length-first es short)
+      ∙ ap (column 1 64 (addressColumn es) ++_) (column-set 64 (attributeColumn es) (tail (length es)) at w (wide-attributes es) (omega (arith, length-map es wordOf)))
+      ∙ sym (rw (length-set es at e, map-set rowOf es at e, map-set wordOf es at e, attributes-back (rowOf (getD es at noEntry)) w)
+      (ap (λ (c : List (List ℕ)). column 1 64 c ++ (column 1 64 (set (attributeColumn es) at (w ∷ [])) ++ tail (length es))) (set-same rowOf es at e noEntry l (ap addressRow (address-back (getD es at noEntry .address) (w ∷ []))))))
+
+  -- ONE ENTRY MORE
+  module _ (at a w : ℕ) (l : at ≤ length es) (s : length es < 64) where
+    abbrev e : Entry
+    e = entryIn (addressRow a) (w ∷ [])
+
+    abbrev more : List Entry
+    more = spliced es at e
+
+    length-more : length more ≡ length es + 1
+    length-more = keyed.length-spliced es at e ∙ omega arith
+
+    first-grown : (row g : List ℕ) → row ≡ addressRow a → g ≡ inserted (length es) at row b → Parts g more es (length es)
+    first-grown row g k q =
+        let n = length-map es rowOf in
+        q ∙ rw (k, parts, ← n)
+        (column-inserted 1 64 (addressColumn es) _ (wide-addresses es) at (addressRow a) (row-length a) (omega (arith, n)) (omega (arith, n))
+        ∙ ap (λ (c : List (List ℕ)). column 1 64 c ++ (column 1 64 (attributeColumn es) ++ tail (length (addressColumn es)))) (sym (map-spliced rowOf es at e ∙ ap (λ (x : ℕ). spliced (addressColumn es) at (addressRow x)) (address-back a (w ∷ [])))))
+
+    second-grown : (g d : List ℕ) → Parts g more es (length es) → d ≡ inserted (length es) at (w ∷ []) (drop 64 g)
+        → set (take 64 g ++ d) 128 (length es + 1) ≡ wordsOf (tableOf i more)
+    unfolding wordsOf
+    second-grown g d p q =
+        let n = length-map es wordOf in
+        let m : length more ≤ 64 = omega (arith, length-more) in
+        let v : d ≡ column 1 64 (attributeColumn more) ++ tail (length es) =
+        q ∙ rw (behind g more es (length es) m p, ← n)
+        (column-inserted 1 64 (attributeColumn es) (tail (length (attributeColumn es))) (wide-attributes es) at (w ∷ []) refl (omega (arith, n)) (omega (arith, n))
+        ∙ ap (λ (c : List (List ℕ)). column 1 64 c ++ tail (length (attributeColumn es))) (sym (map-spliced wordOf es at e ∙ ap (λ (x : ℕ). spliced (attributeColumn es) at (x ∷ [])) (attributes-back (addressRow a) w)))) in
+        rw (before g more es (length es) m p, v, counted more more (length es) (length es + 1) m m, length-more)
+
+    pub grown-words : (n : ℕ) (row g d : List ℕ) → n ≡ length es → row ≡ addressRow a → g ≡ inserted n at row b → d ≡ inserted n at (w ∷ []) (take (length g - 64) (drop 64 g))
+        → set (putMid 64 (length g - 64) g d) 128 (n + 1) ≡ wordsOf (tableOf i more)
+    grown-words n row g d z k q r =
+        ap₂ (λ (x : List ℕ) (m : ℕ). set x 128 (m + 1)) (put-all g d) z
+        ∙ second-grown g d (first-grown row g k (q ∙ ap (λ (m : ℕ). inserted m at row b) z)) (r ∙ ap₂ (λ (m : ℕ) (x : List ℕ). inserted m at (w ∷ []) x) z (part-all g))
+
+  -- ONE ENTRY LESS
+  module _ (at : ℕ) (l : at < length es) where
+    abbrev less : List Entry
+    less = cut es at
+
+    length-less : length less ≡ length es - 1
+    length-less = omega (arith, keyed.length-cut es at l)
+
+    first-shrunk : (g : List ℕ) → g ≡ removed 1 (length es) at b → Parts g less es (length es)
+    first-shrunk g q =
+        let n = length-map es rowOf in
+        q ∙ rw (parts, ← n)
+        (column-removed 1 64 (addressColumn es) _ (wide-addresses es) at (omega (arith, n)) (omega (arith, n, short))
+        ∙ ap (λ (c : List (List ℕ)). column 1 64 c ++ (column 1 64 (attributeColumn es) ++ tail (length (addressColumn es)))) (sym (map-cut rowOf es at)))
+
+    second-shrunk : (g d : List ℕ) → Parts g less es (length es) → d ≡ removed 1 (length es) at (drop 64 g)
+        → set (take 64 g ++ d) 128 (length es - 1) ≡ wordsOf (tableOf i less)
+    unfolding wordsOf
+    second-shrunk g d p q =
+        let n = length-map es wordOf in
+        let m : length less ≤ 64 = omega (arith, length-less, short) in
+        let v : d ≡ column 1 64 (attributeColumn less) ++ tail (length es) =
+        q ∙ rw (behind g less es (length es) m p, ← n)
+        (column-removed 1 64 (attributeColumn es) (tail (length (attributeColumn es))) (wide-attributes es) at (omega (arith, n)) (omega (arith, n, short))
+        ∙ ap (λ (c : List (List ℕ)). column 1 64 c ++ tail (length (attributeColumn es))) (sym (map-cut wordOf es at))) in
+        rw (before g less es (length es) m p, v, counted less less (length es) (length es - 1) m m, length-less)
+
+    pub shrunk-words : (n : ℕ) (g d : List ℕ) → n ≡ length es → g ≡ removed 1 n at b → d ≡ removed 1 n at (take (length g - 64) (drop 64 g))
+        → set (putMid 64 (length g - 64) g d) 128 (n - 1) ≡ wordsOf (tableOf i less)
+    shrunk-words n g d z q r =
+        ap₂ (λ (x : List ℕ) (m : ℕ). set x 128 (m - 1)) (put-all g d) z
+        ∙ second-shrunk g d (first-shrunk g (q ∙ ap (λ (m : ℕ). removed 1 m at b) z)) (r ∙ ap₂ (λ (m : ℕ) (x : List ℕ). removed 1 m at x) z (part-all g))

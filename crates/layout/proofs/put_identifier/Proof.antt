@@ -1,0 +1,91 @@
+-- `put_identifier` meets its contract: octet by octet, which the words are then. Assumes nothing.
+use Prim.Native.Nat.{ℕ, _+_, _≤_, _-_}
+use native.Mathlib.Numerals.{add-one}
+use native.Mathlib.Omega.{arith}
+use mathlib.Core.Path.{_≡_, ap, sym, _∙_, subst}
+use mathlib.Core.List.{List}
+use borrow.Author.Needs.{needs}
+use lib.ListN.{length, getD, set, take, length-set}
+use lib.Seq.{paste, paste-zero, paste-suc, take-all}
+use Rattle.layout.specs.Words.{Octets}
+use Rattle.layout.proofs.Words.{none-octets, octets-next, written-all}
+use Rattle.layout.proofs.put_identifier.Statement.{statement}
+use Rattle.layout.proofs.put_identifier.Tie as tie
+
+abbrev Inv-loop : tie.InvT-loop
+Inv-loop t₀ esi i₀ t i = (i ≤ 10) × (length t ≡ 139) × (t ≡ paste t₀ 129 esi i) × Octets (take i esi)
+
+abbrev μ-loop : tie.MeasureT-loop
+μ-loop t₀ esi i₀ t i = 10 - i
+
+loop-holds : tie.Need-loop-holds Inv-loop μ-loop
+loop-holds c =
+    let start = c .before .before in
+    let a = start .args in
+    (omega arith, start .pre .0, paste-zero (a .t .now) 129 (a .esi .now), none-octets)
+
+shared-slice-read-octet : tie.Need-shared-slice-read-octet Inv-loop μ-loop
+shared-slice-read-octet c = omega arith
+
+octet-requires : tie.Need-octet-requires Inv-loop μ-loop
+octet-requires c κs = search needs
+
+add-t : tie.Need-add-t Inv-loop μ-loop
+add-t c = omega arith
+
+mul-t : tie.Need-mul-t Inv-loop μ-loop
+mul-t c = omega arith
+
+slice-write-t : tie.Need-slice-write-t Inv-loop μ-loop
+slice-write-t c = omega arith
+
+add-i : tie.Need-add-i Inv-loop μ-loop
+add-i c = omega arith
+
+loop-less : tie.Need-loop-less Inv-loop μ-loop
+loop-less c = omega arith
+
+loop-again : tie.Need-loop-again Inv-loop μ-loop
+loop-again c =
+    let turn = c .before .before .before in
+    let start = turn .before .before .before in
+    let a = start .args in
+    let v = turn .loop .inv in
+    let o = c .octet .ensures in (
+      omega arith,
+      length-set (turn .loop .t) _ _ ∙ v .1,
+      rw (add-one, o .0) (ap (λ (s : List ℕ). set s (129 + turn .loop .i) (getD (a .esi .now) (turn .loop .i) 0)) (v .2) ∙ paste-suc (a .t .now) 129 (a .esi .now) (turn .loop .i) 0 (omega arith) (omega arith)),
+      octets-next (a .esi .now) (turn .loop .i) (omega arith) (rw (← o .0) (o .1)) (v .3),
+    )
+
+same-length : tie.Need-same-length Inv-loop μ-loop
+same-length c = let turn = c .before in turn .loop .inv .1 ∙ sym (turn .before .before .before .pre .0)
+
+returns : tie.Need-returns Inv-loop μ-loop
+returns c =
+    let turn = c .before in
+    let start = turn .before .before .before in
+    let a = start .args in
+    let v = turn .loop .inv in
+    let i : turn .loop .i ≡ 10 = omega arith in (
+      v .2 ∙ written-all (a .t .now) (a .esi .now) (turn .loop .i) (start .pre .0) (start .pre .1) (omega arith) (omega arith),
+      subst Octets (take-all (turn .loop .i) (a .esi .now) (omega arith)) (v .3),
+    )
+
+pub put-identifier-spec : {M : Type 1} → statement M
+put-identifier-spec =
+    tie.close
+    (tie.spec
+    Inv-loop
+    μ-loop
+    loop-holds
+    shared-slice-read-octet
+    octet-requires
+    add-t
+    mul-t
+    slice-write-t
+    add-i
+    loop-less
+    loop-again
+    same-length
+    returns)

@@ -1,0 +1,78 @@
+-- How a table lies in the words that a caller lends: a column of 64 addresses, a column of 64 words of attributes, the number of entries, and the ten
+-- octets of the identifier, one to a word; 139 words of 32 bits. The entries stand in rising address order and unused places are zero, so that equal contents are
+-- equal words (document 01, "The table", which leaves the form of a table open).
+--   bit b              == a bit as a number
+--   kindOf e           == the algorithm and the AC-DF bit of the entry e as one number
+--   standingOf e       == its preference in 16 bits and the DP bit behind it
+--   attributesOf e     == both as one number: all of the entry but its address
+--   addressColumn l, attributeColumn l == the rows of the two columns that hold the entries l
+--   entryIn r w        == the entry of the address in the row r with the attributes in the row w
+--   entriesIn rs ws    == the entries of the rows rs and ws
+--   wordsOf t          == THE words of the table t
+--   tableIn b          == the table that lies in the words b
+--   Octets l           == every number of l is an octet
+--   Valid b            == b is the words of a table that the calls can have made
+--   Packed e w         == the word w is the attributes of an entry with the communities e, whose preference has 16 bits
+use Prim.Native.Nat.{ℕ, _+_, _*_, _/_, _%_, _<_}
+use mathlib.Core.Path.{_≡_}
+use mathlib.Core.Bool.{Bool, cond}
+use mathlib.Core.List.{List, [], _∷_, _++_, map}
+use lib.ListN.{length, getD, drop}
+use lib.Dec.{eqb}
+use Rattle.keyed.specs.Keyed.{Every}
+use Rattle.rows.specs.Rows.{rowsIn, column}
+use Rattle.address.specs.Address.{addressRow, addressIn}
+use Rattle.community.specs.declared.Election.{Election}
+use Rattle.layout.specs.Table.{Entry, entryOf, Table, WellFormed}
+
+abbrev pub bit : Bool → ℕ
+bit b = cond b 1 0
+
+unfoldable pub kindOf : Entry → ℕ
+kindOf e = e .algorithm * 2 + bit (e .«ac_df»)
+
+unfoldable pub standingOf : Entry → ℕ
+standingOf e = e .preference * 2 + bit (e .dp)
+
+unfoldable pub attributesOf : Entry → ℕ
+attributesOf e = kindOf e * 131072 + standingOf e
+
+abbrev pub addressColumn : List Entry → List (List ℕ)
+addressColumn l = map (λ e. addressRow (e .address)) l
+
+abbrev pub attributeColumn : List Entry → List (List ℕ)
+attributeColumn l = map (λ e. attributesOf e ∷ []) l
+
+unfoldable pub entryIn : List ℕ → List ℕ → Entry
+entryIn r w = record {
+  address = addressIn r;
+  algorithm = getD w 0 0 / 131072 / 2;
+  «ac_df» = eqb (getD w 0 0 / 131072 % 2) 1;
+  dp = eqb (getD w 0 0 % 131072 % 2) 1;
+  preference = getD w 0 0 % 131072 / 2;
+}
+
+unfoldable pub entriesIn : List (List ℕ) → List (List ℕ) → List Entry
+entriesIn [] ws = []
+entriesIn (r ∷ rs) [] = []
+entriesIn (r ∷ rs) (w ∷ ws) = entryIn r w ∷ entriesIn rs ws
+
+unfoldable pub wordsOf : Table → List ℕ
+wordsOf t = column 1 64 (addressColumn (t .entries)) ++ (column 1 64 (attributeColumn (t .entries)) ++ (length (t .entries) ∷ t .esi))
+
+unfoldable pub tableIn : List ℕ → Table
+tableIn b = record {
+  esi = drop 129 b;
+  entries = entriesIn (rowsIn 1 (getD b 128 0) b) (rowsIn 1 (getD b 128 0) (drop 64 b));
+}
+
+abbrev pub Octets : List ℕ → Type 0
+Octets l = Every (λ o. o < 256) l
+
+pub record Valid (b : List ℕ) : Type 0 where
+  pub sound : WellFormed (tableIn b)
+  pub whole : b ≡ wordsOf (tableIn b)
+  pub octets : Octets (tableIn b .esi)
+
+abbrev pub Packed : Election → ℕ → Type 0
+Packed e w = (w ≡ attributesOf (entryOf 0 e)) × (e .preference < 65536)

@@ -1,0 +1,160 @@
+// Rows of words: n rows of k words each at the start of a lent slice, in rising order, high word first. A row is its own key.
+// The width k and the capacity are the caller's. Every function asks for the bounds that it needs; callers check before they call.
+// Every table lies in such rows: there is one search, one insertion and one removal.
+ghost use mathlib.Core.Path.{_≡_};
+ghost use mathlib.Core.List.{map};
+ghost use Prim.Native.Nat.{_+_, _*_, _≤_, _<_};
+ghost use lib.ListN.{length, take, drop};
+ghost use Rattle.keyed.specs.Keyed.{Rising};
+ghost use Rattle.rows.specs.Rows.{rowsIn, rowKey, keyOrder, foundIn, middle, firstLook, looksFor, opened, inserted, closed, removed};
+
+// How one row stands to another.
+pub enum Order {
+    Less,
+    Equal,
+    Greater,
+}
+
+// The place of a row, or the place at which it would stand.
+pub enum Found {
+    At(usize),
+    Missing(usize),
+}
+
+// The answer of a search: the row's place, and how many rows were compared with it.
+pub struct Lookup {
+    pub found: Found,
+    pub looks: u32,
+}
+
+// The row that starts at word `at`, against a key of as many words: the first two words that differ decide.
+pub fn compare(s: &[u32], at: usize, key: &[u32]) -> Order
+    requires { ⌜ at + length (now key) ≤ length (now s) ⌝ }
+    ensures { λ r. ⌜ r ≡ keyOrder (rowKey (take (length (now (key .entry))) (drop at (now (s .entry))))) (rowKey (now (key .entry))) ⌝ }
+{
+    let mut i = 0;
+    while i < key.len() {
+        let x = s[at + i];
+        let y = key[i];
+        if x != y {
+            if x < y {
+                return Order::Less;
+            }
+            return Order::Greater;
+        }
+        i += 1;
+    }
+    Order::Equal
+}
+
+// The place of the first look among n rows: the one that is proposed, or the middle where that is no row.
+fn first_look(first: usize, n: usize) -> usize
+    ensures { λ r. ⌜ r ≡ firstLook first n ⌝ }
+{
+    if first < n {
+        return first;
+    }
+    n / 2
+}
+
+// The place in the middle of a range.
+fn halfway(lo: usize, hi: usize) -> usize
+    requires { ⌜ lo ≤ hi ⌝ }
+    ensures { λ r. ⌜ r ≡ middle lo hi ⌝ }
+{
+    lo + (hi - lo) / 2
+}
+
+// Looks a key up among the first n rows. The first look is at the row `first`, if there is one; then the range that is left is halved at each look.
+// One look at a row decides less, equal or greater. `looks` is how many rows were compared with the key.
+pub fn search(s: &[u32], n: usize, first: usize, key: &[u32]) -> Lookup
+    requires { ⌜ (n * length (now key) ≤ length (now s)) × Rising rowKey 0 (rowsIn (length (now key)) n (now s)) ⌝ }
+    ensures found { λ r. ⌜ r .found ≡ foundIn rowKey (rowKey (now (key .entry))) (rowsIn (length (now (key .entry))) n (now (s .entry))) ⌝ }
+    ensures looks { λ r. ⌜ r .looks ≡ length (looksFor first (rowKey (now (key .entry))) (map rowKey (rowsIn (length (now (key .entry))) n (now (s .entry))))) ⌝ }
+{
+    let k = key.len();
+    let mut lo = 0;
+    let mut hi = n;
+    let mut look = first_look(first, n);
+    let mut looks = 0;
+    while lo < hi {
+        looks += 1;
+        let at = look * k;
+        let order = compare(s, at, key);
+        match order {
+            Order::Equal => {
+                return Lookup {
+                    found: Found::At(look),
+                    looks: looks,
+                };
+            }
+            Order::Less => {
+                lo = look + 1;
+                look = halfway(lo, hi);
+            }
+            Order::Greater => {
+                hi = look;
+                look = halfway(lo, hi);
+            }
+        }
+    }
+    Lookup {
+        found: Found::Missing(lo),
+        looks: looks,
+    }
+}
+
+// The rows from place `at` on move one row right, the last word first; the words of row `at` stay as they were.
+fn open_gap(s: &mut [u32], n: usize, k: usize, at: usize)
+    requires { ⌜ (at ≤ n) × (n * k + k ≤ length (now s)) ⌝ }
+    ensures { λ _. ⌜ now (s .exit) ≡ opened k n at (now (s .entry)) ⌝ }
+{
+    let from = at * k;
+    let mut i = n * k;
+    while from < i {
+        i -= 1;
+        s[i + k] = s[i];
+    }
+}
+
+// One row more among the first n, before place `at`.
+pub fn insert(s: &mut [u32], n: usize, at: usize, key: &[u32])
+    requires { ⌜ (at ≤ n) × (n * length (now key) + length (now key) ≤ length (now s)) ⌝ }
+    ensures { λ _. ⌜ now (s .exit) ≡ inserted n at (now (key .entry)) (now (s .entry)) ⌝ }
+{
+    let k = key.len();
+    open_gap(s, n, k, at);
+    let from = at * k;
+    let mut i = 0;
+    while i < k {
+        s[from + i] = key[i];
+        i += 1;
+    }
+}
+
+// The rows after place `at` move one row left, the first word first; the words of the last row stay as they were.
+fn close_gap(s: &mut [u32], n: usize, k: usize, at: usize)
+    requires { ⌜ (at < n) × (n * k ≤ length (now s)) ⌝ }
+    ensures { λ _. ⌜ now (s .exit) ≡ closed k n at (now (s .entry)) ⌝ }
+{
+    let last = (n - 1) * k;
+    let mut i = at * k;
+    while i < last {
+        s[i] = s[i + k];
+        i += 1;
+    }
+}
+
+// One row less among the first n, the one at place `at`; the words of the last row are zero.
+pub fn remove(s: &mut [u32], n: usize, k: usize, at: usize)
+    requires { ⌜ (at < n) × (n * k ≤ length (now s)) ⌝ }
+    ensures { λ _. ⌜ now (s .exit) ≡ removed k n at (now (s .entry)) ⌝ }
+{
+    close_gap(s, n, k, at);
+    let last = (n - 1) * k;
+    let mut i = 0;
+    while i < k {
+        s[last + i] = 0;
+        i += 1;
+    }
+}
