@@ -1,153 +1,217 @@
--- Laws of `specs/Election.antt`: the algorithm in use and the scores, read from the words of a table. Assumes nothing.
-use Prim.Native.Nat.{ℕ, zero, suc, _+_, _*_, _/_, _%_, _≤_, _<_}
-use native.Mathlib.Numerals.{add-one}
+-- Laws of the election: the candidates are the entries at the places of their set, what each return answers, and what an answer says. Assumes nothing.
+use Prim.Native.Nat.{ℕ, zero, suc, _%_, _^_, _≤_, _<_}
+use native.Mathlib.Nat.{mod-lt, lt-of-lt-of-le}
 use native.Mathlib.Omega.{arith}
-use mathlib.Core.Path.{_≡_, refl, ap, ap₂, _∙_, sym}
-use mathlib.Core.Bool.{Bool, true, false, cond, not, _&&_, Bool·beq, and-false, and-true}
-use mathlib.Core.List.{List, [], _∷_, map}
-use lib.ListN.{length, getD, take, drop, drop-of-length-le}
-use lib.Seq.{drop-cons, take-take}
+use mathlib.Core.Path.{_≡_, refl, ap, ap₂, _∙_, sym, subst}
+use mathlib.Core.Bool.{Bool, true, false, cond}
+use mathlib.Core.List.{List, [], _∷_, map, List·Memᴰ, List·Memᴰ·not-nil}
+use lib.ListN.{length, getD, length-map}
 use lib.Dec.{ltb, eqb}
-use lib.Bits.{bitXor, xor-step, xor-zero-r}
-use borrow.Author.Tests.{lt-ltb, le-ltb, eq-eqb, ne-eqb}
-use Rattle.keyed.specs.Keyed.{Every}
-use Rattle.keyed.proofs.Order.{Same, yea, nay, same}
-use Rattle.table.specs.Table.{Entry, Table, none, live}
-use Rattle.table.specs.Words.{bit, attributesOf, tableIn, Valid}
-use Rattle.table.proofs.Laws.{length-entries, live-next}
-use Rattle.table.proofs.Words.{Narrow, kind-of, low-of, narrow-live, narrow-entry, count-short, take-second, address-word, attributes-word}
-use Rattle.election.specs.Election.{carries, allCarry, fallback, inUse}
-use Rattle.election.specs.Steps.{allOfKind, scoreOf, scoreIn, usedWith}
+use lib.Count.{ones}
+use lib.Pow.{pow-mono}
+use borrow.Author.Tests.{lt-ltb, le-ltb, eq-eqb, ne-eqb, ltb-true, eqb-true, eqb-false}
+use Rattle.layout.specs.Table.{Entry, entryKey, noEntry, Table, WellFormed}
+use Rattle.places.specs.Places.{places, setOf}
+use Rattle.places.proofs.Laws.{places-none, places-empty, length-places, places-under}
+use Rattle.places.proofs.Flags.{setOf-lt, picked-places}
+use Rattle.choice.specs.Choice.{bestOf}
+use Rattle.choice.proofs.Laws.{Unique, at-mem, best-in, best-top, best-only, bestOf-cons}
+use Rattle.choice.proofs.Criteria.{Ascending, unique-ascending}
+use Rattle.hrw.specs.Weight.{digestOf}
+use Rattle.agreement.specs.Agreement.{inUse}
+use Rattle.agreement.specs.declared.InUse.{InUse}
+use Rattle.ready.specs.Ready.{eligible, candidates, candidateSet}
+use Rattle.winner.specs.Winner.{better, elected, entriesAt}
+use Rattle.winner.proofs.Orders.{order-better, better-any}
+use Rattle.winner.proofs.Laws.{places-ascending}
+use Rattle.election.specs.Election.{refused, reservedTag, eligibles, answerOf, electOf, NoneNamed, Chosen}
+use Rattle.election.specs.Steps.{digestUnder, namedOf, answerFor}
+use Rattle.election.specs.declared.Answer.{Answer}
 
--- A WALK over words of attributes: all before place i were of the kind, and those from there on are, exactly if all are
-module _ (k : ℕ) (ws : List ℕ) where
-  kind-step : (i : ℕ) → i < length ws → allOfKind k (drop i ws) ≡ (eqb (getD ws i 0 / 131072) k && allOfKind k (drop (i + 1) ws))
-  unfolding allOfKind
-  kind-step i h = rw (add-one, drop-cons ws i 0 h)
+ones-none : 0 ≡ ones 0
+ones-none = ap length (sym places-none) ∙ length-places 0 (omega arith)
 
-  module _ (i : ℕ) (h : i < length ws) (b : Bool) (q : (b && allOfKind k (drop i ws)) ≡ allOfKind k ws) where
-    pub kind-other : (getD ws i 0 / 131072 ≡ k → ⊥) → (false && allOfKind k (drop (i + 1) ws)) ≡ allOfKind k ws
-    kind-other n = sym (ap (b &&_) (kind-step i h ∙ rw (ne-eqb _ k n)) ∙ and-false b) ∙ q
+empty : {A : Type 0} (l : List A) → length l ≡ 0 → l ≡ []
+empty [] q = refl
+empty (x ∷ l) q = absurd (omega arith)
 
-    pub kind-same : getD ws i 0 / 131072 ≡ k → (b && allOfKind k (drop (i + 1) ws)) ≡ allOfKind k ws
-    kind-same e = sym (ap (b &&_) (kind-step i h ∙ rw (eq-eqb _ k e))) ∙ q
-
-  pub kind-end : (i : ℕ) (b : Bool) → length ws ≤ i → (b && allOfKind k (drop i ws)) ≡ allOfKind k ws → b ≡ allOfKind k ws
-  unfolding allOfKind
-  kind-end i b h q = sym (ap (λ (l : List ℕ). b && allOfKind k l) (drop-of-length-le ws {i = i} h) ∙ and-true b) ∙ q
-
--- A KIND is an algorithm and an AC-DF bit
-kind-eqb : (x a : ℕ) (p q : Bool) → eqb (x * 2 + bit p) (a * 2 + bit q) ≡ (eqb x a && Bool·beq p q)
-kind-eqb x a p q = go (same x a) p q
+-- the elected one does not depend on a digest that its algorithm does not ask for
+elected-under : (a tag : ℕ) (i : List ℕ) (cs : List Entry) → elected a tag (digestUnder a tag i) cs ≡ elected a tag (digestOf tag i) cs
+unfolding elected digestUnder
+elected-under a tag i cs = go (eqb a 1) refl
   where
-    go : Same x a → (p q : Bool) → eqb (x * 2 + bit p) (a * 2 + bit q) ≡ (eqb x a && Bool·beq p q)
-    go (yea e) true true = rw (eq-eqb x a e, eq-eqb (x * 2 + 1) (a * 2 + 1) (omega arith))
-    go (yea e) true false = rw (eq-eqb x a e, ne-eqb (x * 2 + 1) (a * 2 + 0) (λ f. omega arith))
-    go (yea e) false true = rw (eq-eqb x a e, ne-eqb (x * 2 + 0) (a * 2 + 1) (λ f. omega arith))
-    go (yea e) false false = rw (eq-eqb x a e, eq-eqb (x * 2 + 0) (a * 2 + 0) (omega arith))
-    go (nay n) true true = rw (ne-eqb x a n, ne-eqb (x * 2 + 1) (a * 2 + 1) (λ f. n (omega arith)))
-    go (nay n) true false = rw (ne-eqb x a n, ne-eqb (x * 2 + 1) (a * 2 + 0) (λ f. omega arith))
-    go (nay n) false true = rw (ne-eqb x a n, ne-eqb (x * 2 + 0) (a * 2 + 1) (λ f. omega arith))
-    go (nay n) false false = rw (ne-eqb x a n, ne-eqb (x * 2 + 0) (a * 2 + 0) (λ f. n (omega arith)))
+    go : (b : Bool) → eqb a 1 ≡ b
+        → cond (eqb a 0) (getD cs (tag % length cs) noEntry) (bestOf (better a (cond b (digestOf tag i) 0)) noEntry cs)
+        ≡ cond (eqb a 0) (getD cs (tag % length cs) noEntry) (bestOf (better a (digestOf tag i)) noEntry cs)
+    go true e = refl
+    go false e = ap (λ (B : Entry → Entry → Bool). cond (eqb a 0) (getD cs (tag % length cs) noEntry) (bestOf B noEntry cs)) (better-any a 0 (digestOf tag i) e)
 
-kind-carry : (a : ℕ) (ac : Bool) (l : List Entry) → Every Narrow l → allOfKind (a * 2 + bit ac) (map attributesOf l) ≡ allCarry a ac l
-unfolding allOfKind allCarry Every
-kind-carry a ac [] h = refl
-kind-carry a ac (e ∷ l) h =
-    let k : eqb (attributesOf e / 131072) (a * 2 + bit ac) ≡ carries a ac e = rw (kind-of e (h .0)) (kind-eqb (e .algorithm) a (e .«ac_df») ac) in
-    ap₂ _&&_ k (kind-carry a ac l (h .1))
+-- NONE is named exactly if no candidate is eligible
+none-named : (i : List ℕ) (l : List Entry) (tag : ℕ) (ready : List ℕ) → NoneNamed l tag ready (electOf i l tag ready)
+unfolding electOf answerOf
+none-named i l tag ready = go (reservedTag tag) refl (ltb 64 (length ready)) refl (eqb (length (eligibles l ready)) 0) refl _ refl
+  where
+    cs : List Entry
+    cs = eligibles l ready
 
--- THE ALGORITHM IN USE
-carries-own : (a : ℕ) (ac : Bool) → (eqb a a && Bool·beq ac ac) ≡ true
-carries-own a true = rw (eq-eqb a a refl)
-carries-own a false = rw (eq-eqb a a refl)
+    go : (a : Bool) → reservedTag tag ≡ a → (b : Bool) → ltb 64 (length ready) ≡ b → (c : Bool) → eqb (length cs) 0 ≡ c → (r : Answer) → r .number ≡ 0
+        → (cond a (refused 10) (cond b (refused 11) (cond c (refused 12) r)) .number ≡ 12 → cs ≡ [])
+        × (reservedTag tag ≡ false → length ready ≤ 64 → cs ≡ [] → cond a (refused 10) (cond b (refused 11) (cond c (refused 12) r)) .number ≡ 12)
+    go true p b q c e r z = (λ h. absurd (omega (arith, h)), λ f k n. let w : _≡_ {A = ℕ} 0 1 = cc in absurd (omega arith))
+    go false p true q c e r z = (λ h. absurd (omega (arith, h)), λ f k n. absurd (omega (arith, ltb-true 64 (length ready) q, k)))
+    go false p false q true e r z = (λ h. empty cs (eqb-true (length cs) 0 e), λ f k n. refl)
+    go false p false q false e r z = (λ h. absurd (omega (arith, h, z)), λ f k n. absurd (eqb-false (length cs) 0 e (ap length n)))
 
-carry-first : (e : Entry) (l : List Entry) → allCarry (e .algorithm) (e .«ac_df») (e ∷ l) ≡ allCarry (e .algorithm) (e .«ac_df») l
-unfolding allCarry
-carry-first e l = rw (carries-own (e .algorithm) (e .«ac_df»))
+-- an accepted answer names the elected candidate
+accepted-names : (i : List ℕ) (l : List Entry) (tag : ℕ) (ready : List ℕ) → electOf i l tag ready .number ≡ 0
+    → (length (eligibles l ready) ≡ 0 → ⊥) × (electOf i l tag ready .address ≡ elected (inUse l .algorithm) tag (digestOf tag i) (eligibles l ready) .address)
+unfolding electOf answerOf
+accepted-names i l tag ready = go (reservedTag tag) (ltb 64 (length ready)) (eqb (length cs) 0) refl
+  where
+    cs : List Entry
+    cs = eligibles l ready
 
-in-use-first : (e : Entry) (l : List Entry)
-    → inUse (e ∷ l) ≡ cond (ltb (e .algorithm) 4 && allCarry (e .algorithm) (e .«ac_df») (e ∷ l)) (usedWith (e .algorithm) (e .«ac_df»)) fallback
-unfolding inUse
-in-use-first e l = rw (carry-first e l)
+    w : Answer
+    w = record { number = 0; address = elected (inUse l .algorithm) tag (digestOf tag i) cs .address; algorithm = inUse l .algorithm; n = length cs; candidates = candidateSet (inUse l .«ac_df») ready l }
 
-bit-of : (a : ℕ) (ac : Bool) → ((a * 2 + bit ac) / 2 ≡ a) × (eqb ((a * 2 + bit ac) % 2) 1 ≡ ac)
-bit-of a true = (omega arith, eq-eqb ((a * 2 + 1) % 2) 1 (omega arith))
-bit-of a false = (omega arith, ne-eqb ((a * 2 + 0) % 2) 1 (λ e. omega arith))
+    go : (a b c : Bool) → eqb (length cs) 0 ≡ c → cond a (refused 10) (cond b (refused 11) (cond c (refused 12) w)) .number ≡ 0
+        → (length cs ≡ 0 → ⊥) × (cond a (refused 10) (cond b (refused 11) (cond c (refused 12) w)) .address ≡ elected (inUse l .algorithm) tag (digestOf tag i) cs .address)
+    go true b c e h = absurd (omega (arith, h))
+    go false true c e h = absurd (omega (arith, h))
+    go false false true e h = absurd (omega (arith, h))
+    go false false false e h = (eqb-false (length cs) 0 e, refl)
 
-bit-short : (b : Bool) → bit b ≤ 1
-bit-short true = omega arith
-bit-short false = omega arith
+-- THE ANSWER upon a table
+module _ (t : Table) (w : WellFormed t) (tag : ℕ) (ready : List ℕ) where
+  abbrev es : List Entry
+  es = t .entries
 
-take-map : (f : Entry → ℕ) (n : ℕ) (l : List Entry) → take n (map f l) ≡ map f (take n l)
-take-map f zero l = refl
-take-map f (suc n) [] = refl
-take-map f (suc n) (e ∷ l) = ap (f e ∷_) (take-map f n l)
+  abbrev u : InUse
+  u = inUse es
 
-module _ (b : List ℕ) (h : Valid b) where
-  abbrev table : Table
-  table = tableIn b
+  abbrev set : ℕ
+  set = candidateSet (u .«ac_df») ready es
 
-  pub in-use-empty : table .count ≡ 0 → fallback ≡ inUse (live table)
-  unfolding inUse
-  in-use-empty z = rw z
+  abbrev cs : List Entry
+  cs = eligibles es ready
 
-  -- the words of attributes of the entries in use
-  abbrev pub attributes : List ℕ
-  attributes = take (table .count) (drop 64 b)
+  abbrev bs : List Bool
+  bs = map (eligible (u .«ac_df») ready) es
 
-  words-live : attributes ≡ map attributesOf (live table)
-  words-live =
-      sym (take-take (table .count) 64 (drop 64 b) (count-short b h))
-      ∙ ap (λ (s : List ℕ). take (table .count) (take 64 (drop 64 s))) (h .whole)
-      ∙ ap (take (table .count)) (take-second table (length-entries table (h .sound)))
-      ∙ take-map attributesOf (table .count) (table .entries)
+  length-bs : length bs ≡ length es
+  length-bs = length-map es (eligible (u .«ac_df») ready)
 
-  module _ (some : 0 < table .count) where
-    abbrev first : Entry
-    first = getD (table .entries) 0 none
+  by-places : cs ≡ entriesAt es (places set)
+  unfolding candidates candidateSet
+  by-places = sym (picked-places bs es noEntry (sym length-bs) (omega (arith, length-bs, w .short)))
 
-    abbrev pub kind : ℕ
-    kind = getD b 64 0 / 131072
+  pub set-under : set < 2 ^ length es
+  unfolding candidateSet
+  set-under = subst (λ (n : ℕ). setOf bs < 2 ^ n) length-bs (setOf-lt bs)
 
-    first-kind : kind ≡ first .algorithm * 2 + bit (first .«ac_df»)
-    first-kind = ap (λ (w : ℕ). w / 131072) (attributes-word b h 0 (omega arith)) ∙ kind-of first (narrow-entry b h 0)
+  fits : set < 2 ^ 64
+  fits = lt-of-lt-of-le set-under (pow-mono (w .short))
 
-    by-first : inUse (live table) ≡ cond (ltb (first .algorithm) 4 && allOfKind kind attributes) (usedWith (first .algorithm) (first .«ac_df»)) fallback
-    by-first =
-        let l = live-next table (h .sound) 0 none some in
-        let c : allOfKind kind attributes ≡ allCarry (first .algorithm) (first .«ac_df») (live table) =
-        rw (words-live, first-kind) (kind-carry (first .algorithm) (first .«ac_df») (live table) (narrow-live b h)) in
-        rw c (rw l (in-use-first first (drop 1 (live table))))
+  length-cs : length cs ≡ length (places set)
+  length-cs = ap length by-places ∙ length-map (places set) (λ (i : ℕ). getD es i noEntry)
 
-    pub in-use-high : 7 < kind → fallback ≡ inUse (live table)
-    in-use-high k =
-        sym (by-first ∙ rw (le-ltb (first .algorithm) 4 (omega (arith, first-kind, bit-short (first .«ac_df»)))))
+  abbrev pub Answers : Answer → Type 0
+  Answers r = (r ≡ answerFor (t .esi) es tag ready) × (r .n ≡ ones (r .candidates))
 
-    pub in-use-differs : allOfKind kind attributes ≡ false → fallback ≡ inUse (live table)
-    in-use-differs q = sym (by-first ∙ rw (q, and-false (ltb (first .algorithm) 4)))
+  pub answers-12 : (s : ℕ) → s ≡ set → s ≡ 0 → Answers (refused 12)
+  unfolding answerOf answerFor
+  answers-12 s e z =
+      let none-there : length cs ≡ 0 = length-cs ∙ ap (λ (x : ℕ). length (places x)) (sym e ∙ z) ∙ ap length places-none in
+      (rw (eq-eqb (length cs) 0 none-there), ones-none)
 
-    pub in-use-agreed : kind ≤ 7 → allOfKind kind attributes ≡ true → usedWith (kind / 2) (eqb (kind % 2) 1) ≡ inUse (live table)
-    in-use-agreed k q =
-        let e = bit-of (first .algorithm) (first .«ac_df») in
-        sym (by-first ∙ rw (lt-ltb (first .algorithm) 4 (omega (arith, first-kind)), q) (rw (first-kind, e .0, e .1)))
+  pub answers : (v : InUse) (s d at n : ℕ) → v ≡ u → s ≡ set → (s ≡ 0 → ⊥) → d ≡ digestUnder (v .algorithm) tag (t .esi)
+      → getD es at noEntry ≡ elected (v .algorithm) tag d (entriesAt es (places s)) → n ≡ length (places s) → n ≡ ones s
+      → Answers (namedOf (getD es at noEntry .address) (v .algorithm) n s)
+  unfolding answerOf answerFor
+  answers v s d at n a e z f g m o =
+      let some : length cs ≡ 0 → ⊥ = λ q. z (e ∙ places-empty set fits (empty (places set) (sym length-cs ∙ q))) in
+      let who : getD es at noEntry ≡ elected (u .algorithm) tag (digestOf tag (t .esi)) cs =
+      g ∙ ap (λ (x : ℕ). elected (v .algorithm) tag x (entriesAt es (places s))) f
+      ∙ elected-under (v .algorithm) tag (t .esi) (entriesAt es (places s))
+      ∙ ap₂ (λ (x : InUse) (l : List Entry). elected (x .algorithm) tag (digestOf tag (t .esi)) l) a (ap (λ (y : ℕ). entriesAt es (places y)) e ∙ sym by-places) in
+      let count : n ≡ length cs = m ∙ ap (λ (y : ℕ). length (places y)) e ∙ sym length-cs in
+      (rw (who, a, count, e, ne-eqb (length cs) 0 some), o)
 
--- SCORES, from an entry's words
-turned : (p : ℕ) (b : Bool) → bitXor (p * 2 + bit b) 1 ≡ p * 2 + bit (not b)
-turned p true =
-    let e : (p * 2 + 1) / 2 ≡ p = omega arith in
-    let m : (p * 2 + 1) % 2 ≡ 1 = omega arith in
-    xor-step (p * 2 + 1) 1 ∙ rw (e, m, xor-zero-r p)
-turned p false =
-    let e : (p * 2 + 0) / 2 ≡ p = omega arith in
-    let m : (p * 2 + 0) % 2 ≡ 0 = omega arith in
-    xor-step (p * 2 + 0) 1 ∙ rw (e, m, xor-zero-r p)
+  -- once 10 and 11 are passed, and where they refuse
+  abbrev pub Elects : Answer → Type 0
+  Elects r = (r ≡ electOf (t .esi) es tag ready) × (r .n ≡ ones (r .candidates))
 
-score-in : (a d : ℕ) (e : Entry) → Narrow e → scoreIn a d (e .address) (attributesOf e) ≡ scoreOf a d e
-unfolding scoreIn scoreOf
-score-in a d e h = rw (low-of e h, turned (e .preference) (e .dp))
+  pub asked : {r : Answer} → reservedTag tag ≡ false → length ready ≤ 64 → Answers r → Elects r
+  unfolding electOf answerFor
+  asked h k (p, q) = (p ∙ rw (h, le-ltb 64 (length ready) k), q)
 
-pub score-at : (b : List ℕ) (h : Valid b) (a d i : ℕ) → i < 64 → scoreIn a d (getD b i 0) (getD b (64 + i) 0) ≡ scoreOf a d (getD (tableIn b .entries) i none)
-score-at b h a d i l =
-    ap₂ (scoreIn a d) (address-word b h i l) (attributes-word b h i l)
-    ∙ score-in a d (getD (tableIn b .entries) i none) (narrow-entry b h i)
+  pub elects-10 : reservedTag tag ≡ true → Elects (refused 10)
+  unfolding electOf
+  elects-10 h = (rw h, ones-none)
+
+  pub elects-11 : reservedTag tag ≡ false → 64 < length ready → Elects (refused 11)
+  unfolding electOf
+  elects-11 h k = (rw (h, lt-ltb _ _ k), ones-none)
+
+  -- WHO is named
+  ascending : Ascending entryKey 0 cs
+  ascending = subst (λ (l : List Entry). Ascending entryKey 0 l) (sym by-places) (places-ascending es (w .short) (w .rising) (places set) (places-under set (length es) set-under))
+
+  abbrev a : ℕ
+  a = u .algorithm
+
+  abbrev d : ℕ
+  d = digestOf tag (t .esi)
+
+  elected-in : (l : List Entry) → (length l ≡ 0 → ⊥) → List·Memᴰ (elected a tag d l) l
+  unfolding elected
+  elected-in l n = go (eqb a 0) l n
+    where
+      go : (b : Bool) (l : List Entry) → (length l ≡ 0 → ⊥) → List·Memᴰ (cond b (getD l (tag % length l) noEntry) (bestOf (better a d) noEntry l)) l
+      go true l n = at-mem l (tag % length l) noEntry (mod-lt tag (omega (arith, n)))
+      go false [] n = absurd (n refl)
+      go false (x ∷ l) n = rw (bestOf-cons (better a d) noEntry x l) (best-in (better a d) x l)
+
+  elected-top : (l : List Entry) → Unique entryKey l → (a ≡ 0 → ⊥) → (x : Entry) → List·Memᴰ x l → better a d x (elected a tag d l) ≡ false
+  unfolding elected
+  elected-top [] q z x m = absurd (List·Memᴰ·not-nil m)
+  elected-top (y ∷ l) q z x m = rw (ne-eqb a 0 z, bestOf-cons (better a d) noEntry y l) (best-top entryKey (better a d) (order-better a d) y l q x m)
+
+  elected-only : (l : List Entry) → Unique entryKey l → (a ≡ 0 → ⊥) → (x : Entry) → List·Memᴰ x l → ((y : Entry) → List·Memᴰ y l → better a d y x ≡ false) → x ≡ elected a tag d l
+  unfolding elected
+  elected-only [] q z x m n = absurd (List·Memᴰ·not-nil m)
+  elected-only (y ∷ l) q z x m n = best-only entryKey (better a d) (order-better a d) y l q x m n ∙ sym (rw (ne-eqb a 0 z) (bestOf-cons (better a d) noEntry y l))
+
+  chosen : electOf (t .esi) es tag ready .number ≡ 0 → Chosen (t .esi) es tag ready (electOf (t .esi) es tag ready)
+  unfolding elected
+  chosen h =
+      let n = accepted-names (t .esi) es tag ready h in
+      let q = unique-ascending entryKey 0 cs ascending in
+      record {
+        forwarder = elected a tag d cs;
+        address = n .1;
+        candidate = elected-in cs (n .0);
+        top = elected-top cs q;
+        only = elected-only cs q;
+        counted = λ z. rw (eq-eqb a 0 z);
+      }
+
+  -- the promises of the election, from its answer
+  pub promised : {r : Answer} → Elects r
+      → (r ≡ electOf (t .esi) es tag ready) × ((r .n ≡ ones (r .candidates)) × (NoneNamed es tag ready r × (r .number ≡ 0 → Chosen (t .esi) es tag ready r)))
+  promised (p, q) =
+      (p, (q, (subst (λ (x : Answer). NoneNamed es tag ready x) (sym p) (none-named (t .esi) es tag ready),
+      subst (λ (x : Answer). x .number ≡ 0 → Chosen (t .esi) es tag ready x) (sym p) chosen)))
+
+-- RESERVED TAGS, as the code tests them
+pub tag-zero : (tag : ℕ) → tag ≡ 0 → reservedTag tag ≡ true
+unfolding reservedTag
+tag-zero tag e = rw (eq-eqb tag 0 e)
+
+pub tag-last : (tag : ℕ) → (tag ≡ 0 → ⊥) → tag ≡ 4294967295 → reservedTag tag ≡ true
+unfolding reservedTag
+tag-last tag n e = rw (ne-eqb tag 0 n, eq-eqb tag 4294967295 e)
+
+pub tag-right : (tag : ℕ) → (tag ≡ 0 → ⊥) → (tag ≡ 4294967295 → ⊥) → reservedTag tag ≡ false
+unfolding reservedTag
+tag-right tag m n = rw (ne-eqb tag 0 m, ne-eqb tag 4294967295 n)

@@ -234,6 +234,10 @@ module _ (b : List ℕ) (h : Valid b) where
     pub kind-word : getD b (64 + i) 0 / 131072 ≡ kindOf (getD es i noEntry)
     kind-word = ap (λ (w : ℕ). w / 131072) attributes-word ∙ kind-back (getD es i noEntry) (narrow-entry i)
 
+    pub algorithm-word : getD b (64 + i) 0 / 131072 / 2 ≡ getD es i noEntry .algorithm
+    unfolding kindOf
+    algorithm-word = let e = getD es i noEntry in omega (arith, kind-word, bit-less (e .«ac_df»))
+
     pub standing-word : getD b (64 + i) 0 % 131072 ≡ standingOf (getD es i noEntry)
     standing-word = ap (λ (w : ℕ). w % 131072) attributes-word ∙ standing-back (getD es i noEntry) (narrow-entry i)
 

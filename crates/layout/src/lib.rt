@@ -107,6 +107,14 @@ pub fn kind_at(t: &[u32], at: usize) -> u32
     t[ATTRIBUTES + at] / KIND
 }
 
+// The algorithm of the entry at a place.
+pub fn algorithm_at(t: &[u32], at: usize) -> u32
+    requires { ⌜ Valid (now t) × (at < length (tableIn (now t) .entries)) ⌝ }
+    ensures { λ r. ⌜ r ≡ getD (tableIn (now (t .entry)) .entries) at noEntry .algorithm ⌝ }
+{
+    t[ATTRIBUTES + at] / KIND / 2
+}
+
 // The preference of the entry at a place and the DP bit behind it, as one number.
 pub fn standing_at(t: &[u32], at: usize) -> u32
     requires { ⌜ Valid (now t) × (at < length (tableIn (now t) .entries)) ⌝ }

@@ -1,7 +1,7 @@
 -- Laws of sets that are made of flags, and of what they pick from a list.
 -- Assumes nothing.
 use Prim.Native.Nat.{ℕ, zero, suc, _+_, _-_, _*_, _/_, _%_, _^_, _≤_, _<_, min, max}
-use native.Mathlib.Nat.{le-of-suc-le-suc, not-suc-le-zero, le-refl, lt-of-lt-of-le, zero-add, max-zero, div-one, two-pow-succ}
+use native.Mathlib.Nat.{le-of-suc-le-suc, not-suc-le-zero, le-refl, lt-of-lt-of-le, zero-add, max-zero, div-one, two-pow-succ, div-add-mod', mul-le-mul-right}
 use native.Mathlib.Omega.{arith}
 use mathlib.Core.Path.{_≡_, refl, ap, ap₂, sym, _∙_}
 use mathlib.Core.Bool.{Bool, true, false, cond}
@@ -10,8 +10,8 @@ use lib.ListN.{length, getD, set, replicate, length-map, List·getD-map, List·g
 use lib.Pow.{pow-pos, pow-mono, shr-shr}
 use lib.Bits.{bitOr, or-step, or-zero-r}
 use lib.Count.{ones}
-use borrow.Author.Tests.{lt-ltb, le-ltb}
-use Rattle.places.specs.Places.{placesFrom, places, setOf, picked, withPlace}
+use borrow.Author.Tests.{lt-ltb, le-ltb, eq-eqb, ne-eqb}
+use Rattle.places.specs.Places.{placesFrom, places, setOf, picked, withPlace, withoutPlace}
 use Rattle.places.proofs.Bits.{half-even, half-odd, low-even, low-odd, over, from-even, from-odd, from-zero, ones-even, ones-odd}
 use Rattle.places.proofs.Laws.{Rises, rises-weaken, rises-below, rises-at}
 
@@ -117,6 +117,39 @@ module _ (s i : ℕ) where
 
 pub withPlace-set : (bs : List Bool) (i : ℕ) → i < length bs → length bs ≤ 64 → withPlace (setOf bs) i ≡ setOf (set bs i true)
 withPlace-set bs i h k = withPlace-in (setOf bs) i (omega arith) ∙ setOf-set bs i h
+
+-- a flag that is cleared
+setOf-clear : (bs : List Bool) (i : ℕ) → getD bs i false ≡ true → setOf (set bs i false) + 2 ^ i ≡ setOf bs
+setOf-clear [] i h = let z : _≡_ {A = ℕ} 0 1 = cc in absurd (omega arith)
+setOf-clear (true ∷ bs) zero h = rw (setOf-false bs, setOf-true bs)
+setOf-clear (false ∷ bs) zero h = let z : _≡_ {A = ℕ} 0 1 = cc in absurd (omega arith)
+setOf-clear (true ∷ bs) (suc i) h = rw (setOf-true bs, setOf-true (set bs i false)) (omega (arith, setOf-clear bs i h, two-pow-succ i))
+setOf-clear (false ∷ bs) (suc i) h = rw (setOf-false bs, setOf-false (set bs i false)) (omega (arith, setOf-clear bs i h, two-pow-succ i))
+
+module _ (s i : ℕ) where
+  pub withoutPlace-out : 64 ≤ i → withoutPlace s i ≡ s
+  unfolding withoutPlace
+  withoutPlace-out h = rw (le-ltb i 64 h)
+
+  pub withoutPlace-none : i < 64 → (s / 2 ^ i % 2 ≡ 1 → ⊥) → withoutPlace s i ≡ s
+  unfolding withoutPlace
+  withoutPlace-none h n = rw (lt-ltb i 64 h, ne-eqb (s / 2 ^ i % 2) 1 n)
+
+  pub withoutPlace-one : i < 64 → s / 2 ^ i % 2 ≡ 1 → withoutPlace s i ≡ s - 2 ^ i
+  unfolding withoutPlace
+  withoutPlace-one h e = rw (lt-ltb i 64 h, eq-eqb (s / 2 ^ i % 2) 1 e)
+
+  -- a bit that is one is part of the number
+  pub bit-there : s / 2 ^ i % 2 ≡ 1 → 2 ^ i ≤ s
+  bit-there e =
+      let q : 1 ≤ s / 2 ^ i = omega arith in
+      omega (arith, div-add-mod' s (2 ^ i), mul-le-mul-right (2 ^ i) q)
+
+pub withoutPlace-set : (bs : List Bool) (i : ℕ) → i < 64 → getD bs i false ≡ true → withoutPlace (setOf bs) i ≡ setOf (set bs i false)
+unfolding withoutPlace
+withoutPlace-set bs i h q =
+    let b : setOf bs / 2 ^ i % 2 ≡ 1 = bit-setOf bs i ∙ rw q in
+    rw (lt-ltb i 64 h, b) (omega (arith, setOf-clear bs i q))
 
 same-flag : (b c : Bool) → _≡_ {A = ℕ} (cond b 1 0) (cond c 1 0) → b ≡ c
 same-flag false false e = refl

@@ -1,15 +1,16 @@
 -- Laws of the places of a set: how many they are, their order, the lowest and the rest.
 -- Assumes nothing.
-use Prim.Native.Nat.{ℕ, zero, suc, _+_, _-_, _*_, _%_, _^_, _≤_, _<_}
-use native.Mathlib.Nat.{le-of-suc-le-suc, not-suc-le-zero, le-refl, zero-lt-suc, zero-add, add-zero, zero-mul, mul-one, one-mul, pow-suc}
+use Prim.Native.Nat.{ℕ, zero, suc, _+_, _-_, _*_, _/_, _%_, _^_, _≤_, _<_}
+use native.Mathlib.Nat.{le-of-suc-le-suc, not-suc-le-zero, le-refl, zero-lt-suc, zero-add, add-zero, zero-mul, mul-one, one-mul, pow-suc, two-pow-succ, lt-of-lt-of-le}
 use native.Mathlib.Omega.{arith}
 use mathlib.Core.Path.{_≡_, refl, ap, ap₂, sym, _∙_, subst}
-use mathlib.Core.List.{List, [], _∷_}
+use mathlib.Core.Bool.{Bool, true, false, cond}
+use mathlib.Core.List.{List, [], _∷_, _++_}
 use lib.ListN.{length, getD, drop, length-drop, List·getD-eq-default}
 use lib.Seq.{getD-drop}
-use lib.Dec.{lit<}
+use lib.Dec.{lit<, eqb}
 use lib.Arith.{lt-one}
-use lib.Pow.{shl-exact}
+use lib.Pow.{shl-exact, pow-mono}
 use lib.Bits.{bitAnd, and-le-r}
 use lib.Count.{ones, trailingZeros}
 use Rattle.places.specs.Places.{placesFrom, places}
@@ -133,6 +134,29 @@ module _ (s : ℕ) where
     -- a step of a walk, as `first` and `rest` say what they give
     pub places-next : (f r : ℕ) → (s ≡ 0 → ⊥) → f ≡ getD (places s) 0 64 → places r ≡ drop 1 (places s) → places s ≡ f ∷ places r
     places-next f r n p q = places-walk n ∙ ap₂ _∷_ (sym p) (sym q)
+
+-- A SET BELOW 2^n has only places below n
+under-step : (m i s n : ℕ) (b : Bool) → Rises (suc i) (suc i + n) (placesFrom m (suc i) (s / 2))
+    → Rises i (i + suc n) (cond b (i ∷ []) [] ++ placesFrom m (suc i) (s / 2))
+under-step m i s n true r = rw (over i n) (le-refl i, omega arith, r)
+under-step m i s n false r = rw (over i n) (rises-weaken i (suc i + n) (placesFrom m (suc i) (s / 2)) r)
+
+from-under : (m i s n : ℕ) → s < 2 ^ n → Rises i (i + n) (placesFrom m i s)
+unfolding placesFrom
+from-under zero i s n h = tt
+from-under (suc m) i s zero h = let z : s ≡ 0 = lt-one h in rw (z, from-zero (suc m) i) tt
+from-under (suc m) i s (suc n) h = under-step m i s n (eqb (s % 2) 1) (from-under m (suc i) (s / 2) n (omega (arith, two-pow-succ n)))
+
+pub places-under : (s n : ℕ) → s < 2 ^ n → Rises 0 n (places s)
+unfolding places
+places-under s n h = rw zero-add at (from-under 64 0 s n h)
+
+-- the lowest place of a set that is not empty
+pub first-under : (s n : ℕ) → s < 2 ^ n → n ≤ 64 → (s ≡ 0 → ⊥) → getD (places s) 0 64 < n
+first-under s n h k z =
+    let f : s < 2 ^ 64 = lt-of-lt-of-le h (pow-mono k) in
+    let w = places-walk s f z in
+    rises-below 0 n (places s) 0 64 (places-under s n h) (subst (λ (l : List ℕ). 0 < length l) (sym w) (zero-lt-suc (length (drop 1 (places s)))))
 
 pub places-none : places 0 ≡ []
 unfolding places

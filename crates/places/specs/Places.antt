@@ -5,8 +5,9 @@
 --   setOf bs          == the set of the places whose flag is true: bit i is one exactly if the i-th flag of bs is true
 --   picked bs l       == the elements of l whose flag in bs is true, in their order
 --   withPlace s i     == the set s with the place i; s itself where i is no place, that is, 64 or more
-use Prim.Native.Nat.{ℕ, zero, suc, _+_, _*_, _/_, _%_, _^_}
-use mathlib.Core.Bool.{Bool, cond}
+--   withoutPlace s i  == the set s without the place i; s itself where i is not in it
+use Prim.Native.Nat.{ℕ, zero, suc, _+_, _-_, _*_, _/_, _%_, _^_}
+use mathlib.Core.Bool.{Bool, cond, _&&_}
 use mathlib.Core.List.{List, [], _∷_, _++_}
 use lib.Dec.{ltb, eqb}
 use lib.Bits.{bitOr}
@@ -29,3 +30,6 @@ picked (b ∷ bs) (x ∷ l) = cond b (x ∷ []) [] ++ picked bs l
 
 unfoldable pub withPlace : ℕ → ℕ → ℕ
 withPlace s i = cond (ltb i 64) (bitOr s (2 ^ i)) s
+
+unfoldable pub withoutPlace : ℕ → ℕ → ℕ
+withoutPlace s i = cond (ltb i 64 && eqb (s / 2 ^ i % 2) 1) (s - 2 ^ i) s

@@ -5,7 +5,7 @@ ghost use Prim.Native.Nat.{_<_, min};
 ghost use mathlib.Core.Bool.{true};
 ghost use lib.ListN.{length, getD, drop, replicate};
 ghost use lib.Count.{ones};
-ghost use Rattle.places.specs.Places.{places, setOf, withPlace};
+ghost use Rattle.places.specs.Places.{places, setOf, withPlace, withoutPlace};
 
 // The number of places that a set can hold, and the answer where there is no place.
 const PLACES: usize = 64;
@@ -73,4 +73,18 @@ pub fn with(s: u64, i: usize) -> u64
         return s;
     }
     s | (1 << i)
+}
+
+// The set s without the place i; s unchanged where i is not in it.
+pub fn without(s: u64, i: usize) -> u64
+    ensures { λ r. ⌜ r ≡ withoutPlace s i ⌝ }
+{
+    if i >= PLACES {
+        return s;
+    }
+    let bit = 1 << i;
+    if s / bit % 2 != 1 {
+        return s;
+    }
+    s - bit
 }

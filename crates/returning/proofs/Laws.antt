@@ -1,118 +1,140 @@
--- Laws of `specs/Returning.antt`: the case of its definition that each return is, and that the table without the own route holds the others. Assumes nothing.
-use Prim.Native.Nat.{ℕ, _+_, _≤_, _<_, min}
+-- Laws of `specs/Returning.antt`: the case of its definition that each return is, and that the set of the other places holds the other routes. Assumes nothing.
+use Prim.Native.Nat.{ℕ, zero, suc, _+_, _*_, _/_, _%_, _^_, _≤_, _<_, min}
+use native.Mathlib.Nat.{not-suc-le-zero}
 use native.Mathlib.Decide.{ℕ-discrete}
 use native.Mathlib.Omega.{arith}
-use mathlib.Core.Path.{_≡_, refl, ap, _∙_, sym}
-use mathlib.Core.Bool.{Bool, true, false, cond, not, _||_, or-true, and-false}
-use mathlib.Core.List.{List}
-use lib.ListN.{length, getD, drop, replicate, length-replicate, length-map}
+use mathlib.Core.Path.{_≡_, refl, ap, _∙_, sym, subst}
+use mathlib.Core.Bool.{Bool, true, false, _||_, or-true, and-false}
+use mathlib.Core.List.{List, [], _∷_}
+use lib.ListN.{length, getD, set, replicate, length-replicate, length-set, length-map}
 use lib.Dec.{eqb}
 use borrow.Author.Tests.{eq-eqb, ne-eqb}
 use Rattle.address.specs.Address.{addressKey, isZero}
-use Rattle.keyed.specs.Keyed.{padded, has, remove}
-use Rattle.keyed.proofs.Order.{remove-absent, length-remove-le}
-use Rattle.table.specs.Table.{Entry, Table, keyOf, none, live, WellFormed, withdrawn, withdrawNumber}
-use Rattle.table.proofs.Laws.{live-of, live-next, live-end, length-live}
-use Rattle.places.specs.Places.{places, setOf}
-use Rattle.places.proofs.Flags.{picked-all}
+use Rattle.keyed.specs.Keyed.{Rising, cut}
+use Rattle.keyed.proofs.Keyed as keyed
+use Rattle.keyed.proofs.Order.{remove-absent}
+use Rattle.rows.specs.Rows.{foundIn}
+use Rattle.rows.specs.declared.Found.the-variants.{At, Missing}
+use Rattle.rows.proofs.Places.{found-at, found-missing, at-lt}
+use Rattle.layout.specs.Table.{Entry, entryKey, noEntry}
+use Rattle.layout.specs.Words.{bit, standingOf}
+use Rattle.places.specs.Places.{places, setOf, picked, withoutPlace}
+use Rattle.places.proofs.Laws.{places-none, places-walk}
+use Rattle.places.proofs.Flags.{setOf-lt, picked-places, picked-all, withoutPlace-set}
 use Rattle.choice.specs.Choice.{bestOf}
-use Rattle.election.specs.Election.{better}
-use Rattle.election.specs.Steps.{bestPlace}
-use Rattle.election.proofs.Answered.{picked-entries, best-picked, best-below}
+use Rattle.winner.specs.Winner.{better, entriesAt}
 use Rattle.returning.specs.Returning.{others, allUnder, reaches, sent, besideReference, advertised, returningOf}
 
 -- THE OTHER ROUTES
-pub others-live : (t : Table) (w : WellFormed t) (a : ℕ) → isZero a ≡ false → live (withdrawn t a .table) ≡ others a (live t)
-unfolding withdrawn withdrawNumber
-others-live t w a z = rw z (go (has keyOf (addressKey a) (live t)) refl)
-  where
-    k : ℕ
-    k = addressKey a
+true-at : (n i : ℕ) → i < n → getD (replicate n true) i false ≡ true
+true-at zero i h = absurd (not-suc-le-zero h)
+true-at (suc n) zero h = refl
+true-at (suc n) (suc i) h = true-at n i (omega arith)
 
-    go : (b : Bool) → has keyOf k (live t) ≡ b → live (cond (eqb (cond (not b) 9 0) 0) (record { esi = t .esi; count = length (remove keyOf k (live t)); entries = padded 64 none (remove keyOf k (live t)) }) t) ≡ remove keyOf k (live t)
-    go true h = live-of (t .esi) (remove keyOf k (live t)) (omega (arith, length-remove-le keyOf k (live t), length-live t w, w .short))
-    go false h = sym (remove-absent keyOf k (live t) h)
+picked-cut : {A : Type 0} (l : List A) (i : ℕ) → i < length l → picked (set (replicate (length l) true) i false) l ≡ cut l i
+unfolding picked cut
+picked-cut [] i h = absurd (not-suc-le-zero h)
+picked-cut (x ∷ l) zero h = picked-all l
+picked-cut (x ∷ l) (suc i) h = ap (x ∷_) (picked-cut l i (omega arith))
 
--- a walk over the routes
-module _ (t : Table) (w : WellFormed t) (g i : ℕ) where
-  pub under-other : i < t .count → (getD (t .entries) i none .algorithm ≡ g → ⊥) → false ≡ allUnder g (drop i (live t))
+module _ (es : List Entry) (short : length es ≤ 64) (rising : Rising entryKey 1 es) (a n all : ℕ) (z : n ≡ length es) (q : all ≡ setOf (replicate (min n 64) true)) where
+  abbrev Others : ℕ → Type 0
+  Others s = (s < 2 ^ length es) × (entriesAt es (places s) ≡ others a es)
+
+  is-all : all ≡ setOf (replicate (length es) true)
+  is-all = let m : min n 64 ≡ length es = omega arith in q ∙ ap (λ (k : ℕ). setOf (replicate k true)) m
+
+  others-of : (bs : List Bool) (s : ℕ) → length bs ≡ length es → s ≡ setOf bs → picked bs es ≡ others a es → Others s
+  others-of bs s l e p =
+      (rw e (subst (λ (k : ℕ). setOf bs < 2 ^ k) l (setOf-lt bs)), rw e (picked-places bs es noEntry (sym l) (omega arith)) ∙ p)
+
+  pub others-missing : (i : ℕ) → foundIn entryKey (addressKey a) es ≡ Missing i → Others all
+  others-missing i f =
+      others-of (replicate (length es) true) all (length-replicate (length es) true) is-all (picked-all es ∙ sym (remove-absent entryKey (addressKey a) es (found-missing entryKey (addressKey a) es i f .0)))
+
+  pub others-at : (i s : ℕ) → foundIn entryKey (addressKey a) es ≡ At i → s ≡ withoutPlace all i → Others s
+  others-at i s f e =
+      let p = found-at entryKey (addressKey a) es i f in
+      let l = at-lt entryKey (addressKey a) es 1 noEntry rising i f in
+      let bs = replicate (length es) true in
+      others-of (set bs i false) s (length-set bs i false ∙ length-replicate (length es) true)
+      (e ∙ ap (λ (x : ℕ). withoutPlace x i) is-all ∙ withoutPlace-set bs i (omega arith) (true-at (length es) i l))
+      (picked-cut es i l ∙ sym (keyed.remove-present entryKey (addressKey a) es noEntry (keyed.present-of entryKey (addressKey a) es 1 noEntry rising (p .0)) ∙ ap (cut es) (p .1)))
+
+-- A WALK over the routes of a set
+module _ (es : List Entry) (g : ℕ) where
+  abbrev pub under : ℕ → Bool
+  under s = allUnder g (entriesAt es (places s))
+
+  pub under-end : (s : ℕ) → s ≡ 0 → true ≡ under s
   unfolding allUnder
-  under-other h n = sym (ap (allUnder g) (live-next t w i none h) ∙ rw (ne-eqb _ _ n))
+  under-end s z = rw (ap places z ∙ places-none)
 
-  pub under-same : i < t .count → getD (t .entries) i none .algorithm ≡ g → allUnder g (drop i (live t)) ≡ allUnder g (drop (i + 1) (live t))
-  unfolding allUnder
-  under-same h e = ap (allUnder g) (live-next t w i none h) ∙ rw (eq-eqb _ _ e)
+  -- one place of it
+  module _ (s f x : ℕ) (ps : List ℕ) (next : places s ≡ f ∷ ps) (k : x ≡ getD es f noEntry .algorithm) where
+    pub under-other : (x ≡ g → ⊥) → false ≡ under s
+    unfolding allUnder
+    under-other n = sym (ap (λ (l : List ℕ). allUnder g (entriesAt es l)) next ∙ rw (ne-eqb (getD es f noEntry .algorithm) g (λ e. n (k ∙ e))))
 
-  pub under-end : t .count ≤ i → true ≡ allUnder g (drop i (live t))
-  unfolding allUnder
-  under-end h = rw (live-end t w i h)
+    pub under-same : x ≡ g → under s ≡ allUnder g (entriesAt es ps)
+    unfolding allUnder
+    under-same e = ap (λ (l : List ℕ). allUnder g (entriesAt es l)) next ∙ rw (eq-eqb (getD es f noEntry .algorithm) g (sym k ∙ e))
+
+-- a set is empty exactly if no route stands at its places
+pub none-at : (es : List Entry) (s : ℕ) → s ≡ 0 → length (entriesAt es (places s)) ≡ 0
+none-at es s z = ap (λ (l : List ℕ). length (entriesAt es l)) (ap places z ∙ places-none)
+
+pub some-at : (es : List Entry) (s : ℕ) → s < 2 ^ 64 → (s ≡ 0 → ⊥) → length (entriesAt es (places s)) ≡ 0 → ⊥
+some-at es s h n e =
+    let l = length-map (places s) (λ (i : ℕ). getD es i noEntry) in
+    let w = ap length (places-walk s h n) in
+    omega (arith, e, l, w)
 
 -- WHAT IS SENT beside the other routes
-module _ (t : Table) (w : WellFormed t) (g p : ℕ) where
-  pub own-clear : sent 0 p false ≡ advertised g p false (live t)
+standing-halves : (e : Entry) → (standingOf e / 2 ≡ e .preference) × (eqb (standingOf e % 2) 1 ≡ e .dp)
+unfolding standingOf
+standing-halves e = go (e .dp)
+  where
+    go : (b : Bool) → ((e .preference * 2 + bit b) / 2 ≡ e .preference) × (eqb ((e .preference * 2 + bit b) % 2) 1 ≡ b)
+    go true = (omega arith, eq-eqb ((e .preference * 2 + 1) % 2) 1 (omega arith))
+    go false = (omega arith, ne-eqb ((e .preference * 2 + 0) % 2) 1 (λ f. omega arith))
+
+module _ (os : List Entry) (g p : ℕ) where
+  pub own-clear : (d : Bool) → d ≡ false → sent 0 p d ≡ advertised g p d os
   unfolding advertised
-  own-clear = refl
+  own-clear d e = rw e
 
-  pub none-stands : t .count ≡ 0 → sent 0 p true ≡ advertised g p true (live t)
-  unfolding advertised
-  none-stands z = rw (eq-eqb (length (live t)) 0 (length-live t w ∙ z))
-
-  pub other-algorithm : allUnder g (live t) ≡ false → sent 0 p true ≡ advertised g p true (live t)
-  unfolding advertised
-  other-algorithm h = rw (h, or-true (eqb (length (live t)) 0))
-
-  module _ (z : t .count ≡ 0 → ⊥) (u : allUnder g (live t) ≡ true) where
-    bs : List Bool
-    bs = replicate (length (live t)) true
-
-    length-bs : length bs ≡ t .count
-    unfolding bs
-    length-bs = length-replicate (length (live t)) true ∙ length-live t w
-
-    beside-best : advertised g p true (live t) ≡ besideReference g p true (bestOf (better g 0) none (live t))
+  module _ (d : Bool) (own : d ≡ true) where
+    pub none-stands : length os ≡ 0 → sent 0 p d ≡ advertised g p d os
     unfolding advertised
-    beside-best = rw (ne-eqb (length (live t)) 0 (λ e. z (sym (length-live t w) ∙ e)), u)
+    none-stands z = rw (own, eq-eqb (length os) 0 z)
 
-    module _ (at : ℕ) (q : at ≡ bestPlace g 0 (t .entries) (places (setOf (replicate (min (t .count) 64) true)))) where
-      all-places : setOf (replicate (min (t .count) 64) true) ≡ setOf bs
-      unfolding bs
-      all-places =
-          let m : min (t .count) 64 ≡ length (live t) = omega (arith, w .short, length-live t w) in
-          ap (λ (n : ℕ). setOf (replicate n true)) m
+    pub other-algorithm : allUnder g os ≡ false → sent 0 p d ≡ advertised g p d os
+    unfolding advertised
+    other-algorithm h = rw (own, h, or-true (eqb (length os) 0))
 
-      is-place : at ≡ bestPlace g 0 (t .entries) (places (setOf bs))
-      is-place = q ∙ ap (λ (s : ℕ). bestPlace g 0 (t .entries) (places s)) all-places
+    module _ (z : length os ≡ 0 → ⊥) (u : allUnder g os ≡ true) (e : Entry) (w : e ≡ bestOf (better g 0) noEntry os) (s : ℕ) (k : s ≡ standingOf e) where
+      sends : advertised g p d os ≡ besideReference g p d e
+      unfolding advertised
+      sends = rw (own, ne-eqb (length os) 0 z, u, w)
 
-      reference : bestOf (better g 0) none (live t) ≡ getD (t .entries) at none
-      unfolding bs
-      reference =
-          ap (bestOf (better g 0) none) (sym (picked-all (live t)))
-          ∙ best-picked t w bs length-bs g 0
-          ∙ ap (λ (i : ℕ). getD (t .entries) i none) (sym is-place)
+      low : eqb (s % 2) 1 ≡ e .dp
+      low = rw k (standing-halves e .1)
 
-      some-places : 0 < length (places (setOf bs))
-      unfolding bs
-      some-places =
-          omega (arith, z, length-live t w, ap length (sym (picked-entries t w bs length-bs) ∙ picked-all (live t)), length-map (places (setOf bs)) (λ (i : ℕ). getD (t .entries) i none))
+      high : s / 2 ≡ e .preference
+      high = rw k (standing-halves e .0)
 
-      pub at-below : at < 64
-      at-below = rw is-place (best-below g 0 (t .entries) (setOf bs) some-places)
-
-      sends : advertised g p true (live t) ≡ besideReference g p true (getD (t .entries) at none)
-      sends = beside-best ∙ ap (besideReference g p true) reference
-
-      pub reference-clear : getD (t .entries) at none .dp ≡ false → sent 0 p true ≡ advertised g p true (live t)
+      pub reference-clear : (s % 2 ≡ 1 → ⊥) → sent 0 p d ≡ advertised g p d os
       unfolding besideReference
-      reference-clear c = sym (sends ∙ rw c)
+      reference-clear n = sym (sends ∙ rw (sym low ∙ ne-eqb (s % 2) 1 n))
 
-      pub not-reached : reaches g p (getD (t .entries) at none .preference) ≡ false → sent 0 p true ≡ advertised g p true (live t)
+      pub not-reached : reaches g p (s / 2) ≡ false → sent 0 p d ≡ advertised g p d os
       unfolding besideReference
-      not-reached r = sym (sends ∙ rw (r, and-false (getD (t .entries) at none .dp)))
+      not-reached r = sym (sends ∙ rw (sym (ap (reaches g p) high) ∙ r, and-false (e .dp)))
 
-      pub reached : getD (t .entries) at none .dp ≡ true → reaches g p (getD (t .entries) at none .preference) ≡ true
-          → sent 0 (getD (t .entries) at none .preference) false ≡ advertised g p true (live t)
+      pub reached : s % 2 ≡ 1 → reaches g p (s / 2) ≡ true → sent 0 (s / 2) false ≡ advertised g p d os
       unfolding besideReference
-      reached c r = sym (sends ∙ rw (c, r))
+      reached c r = sym (sends ∙ rw (sym low ∙ eq-eqb (s % 2) 1 c, sym (ap (reaches g p) high) ∙ r, ← high))
 
 -- THE WHOLE ANSWER
 module _ (l : List Entry) (a g p : ℕ) (d : Bool) where

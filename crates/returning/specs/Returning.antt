@@ -13,13 +13,13 @@ use lib.ListN.{length}
 use lib.Dec.{leb, eqb}
 use Rattle.address.specs.Address.{addressKey, isZero}
 use Rattle.keyed.specs.Keyed.{remove}
-use Rattle.table.specs.Table.{Entry, keyOf, none}
+use Rattle.layout.specs.Table.{Entry, entryKey, noEntry}
 use Rattle.choice.specs.Choice.{bestOf}
-use Rattle.election.specs.Election.{better}
+use Rattle.winner.specs.Winner.{better}
 use Rattle.returning.specs.declared.Sent.{Sent}
 
 abbrev pub others : ℕ → List Entry → List Entry
-others a l = remove keyOf (addressKey a) l
+others a l = remove entryKey (addressKey a) l
 
 unfoldable pub allUnder : ℕ → List Entry → Bool
 allUnder g [] = true
@@ -38,7 +38,7 @@ besideReference g p d e = cond (e .dp && reaches g p (e .preference)) (sent 0 (e
 -- the administrative pair, if the own DP is clear, no other route stands, or any other route has a different algorithm
 unfoldable pub advertised : ℕ → ℕ → Bool → List Entry → Sent
 advertised g p d os =
-    cond (not d || (eqb (length os) 0 || not (allUnder g os))) (sent 0 p d) (besideReference g p d (bestOf (better g 0) none os))
+    cond (not d || (eqb (length os) 0 || not (allUnder g os))) (sent 0 p d) (besideReference g p d (bestOf (better g 0) noEntry os))
 
 -- 15 for an algorithm that is not 2 or 3, then 6 for address zero
 unfoldable pub returningOf : List Entry → ℕ → ℕ → ℕ → Bool → Sent

@@ -1,11 +1,14 @@
 // The preference and the DP bit that a router advertises when it comes back from repair (RFC 9785, section 4.3).
 use address::Address;
-use table::ATTRIBUTES;
-use table::KIND;
-use table::WORDS;
+use rows::Found;
 ghost use mathlib.Core.Path.{_≡_};
-ghost use Rattle.table.specs.Table.{live};
-ghost use Rattle.table.specs.Words.{tableIn, Valid};
+ghost use mathlib.Core.Bool.{false};
+ghost use Prim.Native.Nat.{_<_, _^_};
+ghost use lib.ListN.{length};
+ghost use Rattle.layout.specs.Words.{tableIn, Valid};
+ghost use Rattle.places.specs.Places.{places};
+ghost use Rattle.winner.specs.Winner.{entriesAt};
+ghost use Rattle.returning.specs.Returning as returning;
 ghost use Rattle.returning.specs.Returning.{allUnder, reaches, advertised, returningOf};
 
 // The answer: 0 and the pair that is sent, or a refusal number and zeros.
@@ -15,19 +18,37 @@ pub struct Sent {
     pub dp: bool,
 }
 
-// Whether all routes of a table carry an algorithm.
-fn all_under(t: &[u32], algorithm: u8) -> bool
+// The refusals: an own algorithm that is not 2 or 3, then address zero.
+const ALGORITHM_NOT_USABLE: u8 = 15;
+
+const ADDRESS_ZERO: u8 = 6;
+
+// The places of the other routes: all places in use but that of the own address.
+fn others(t: &[u32], address: Address) -> u64
     requires { ⌜ Valid (now t) ⌝ }
-    ensures { λ r. ⌜ r ≡ allUnder algorithm (live (tableIn (now (t .entry)))) ⌝ }
+    ensures { λ r. ⌜ (r < 2 ^ length (tableIn (now (t .entry)) .entries)) × (entriesAt (tableIn (now (t .entry)) .entries) (places r) ≡ returning.others address (tableIn (now (t .entry)) .entries)) ⌝ }
 {
-    let n = table::count(t);
+    let all = places::below(layout::count(t));
+    let found = layout::find(t, address);
+    let Found::At(at) = found else {
+        return all;
+    };
+    places::without(all, at)
+}
+
+// Whether all routes of a set of places carry an algorithm.
+fn all_under(t: &[u32], set: u64, algorithm: u8) -> bool
+    requires { ⌜ Valid (now t) × (set < 2 ^ length (tableIn (now t) .entries)) ⌝ }
+    ensures { λ r. ⌜ r ≡ allUnder algorithm (entriesAt (tableIn (now (t .entry)) .entries) (places set)) ⌝ }
+{
     let wanted = algorithm as u32;
-    let mut i = 0;
-    while i < n {
-        if t[ATTRIBUTES + i] / KIND / 2 != wanted {
+    let mut left = set;
+    while left != 0 {
+        let at = places::first(left);
+        if layout::algorithm_at(t, at) != wanted {
             return false;
         }
-        i += 1;
+        left = places::rest(left);
     }
     true
 }
@@ -42,10 +63,10 @@ fn reach(algorithm: u8, own: u16, reference: u16) -> bool
     reference <= own
 }
 
-// What is sent beside the other routes, which stand in a table of their own.
-fn beside(others: &[u32], algorithm: u8, preference: u16, dp: bool) -> Sent
-    requires { ⌜ Valid (now others) ⌝ }
-    ensures { λ r. ⌜ r ≡ advertised algorithm preference dp (live (tableIn (now (others .entry)))) ⌝ }
+// What is sent beside the other routes, which stand at a set of places.
+fn beside(t: &[u32], set: u64, algorithm: u8, preference: u16, dp: bool) -> Sent
+    requires { ⌜ Valid (now t) × (set < 2 ^ length (tableIn (now t) .entries)) ⌝ }
+    ensures { λ r. ⌜ r ≡ advertised algorithm preference dp (entriesAt (tableIn (now (t .entry)) .entries) (places set)) ⌝ }
 {
     let own = Sent {
         number: 0,
@@ -55,19 +76,18 @@ fn beside(others: &[u32], algorithm: u8, preference: u16, dp: bool) -> Sent
     if !dp {
         return own;
     }
-    let n = table::count(others);
-    if n == 0 {
+    if set == 0 {
         return own;
     }
-    if !all_under(others, algorithm) {
+    if !all_under(t, set, algorithm) {
         return own;
     }
-    let at = election::best_place(others, places::below(n), algorithm, 0);
-    let low = others[ATTRIBUTES + at] % KIND;
-    if low % 2 != 1 {
+    let at = winner::best(t, set, algorithm, 0);
+    let standing = layout::standing_at(t, at);
+    if standing % 2 != 1 {
         return own;
     }
-    let reference = (low / 2) as u16;
+    let reference = (standing / 2) as u16;
     if !reach(algorithm, preference, reference) {
         return own;
     }
@@ -78,18 +98,14 @@ fn beside(others: &[u32], algorithm: u8, preference: u16, dp: bool) -> Sent
     }
 }
 
-// The words of a table, to be changed apart from it.
-fn copied(t: &[u32]) -> [u32; WORDS]
-    requires { ⌜ Valid (now t) ⌝ }
-    ensures { λ r. ⌜ r ≡ now (t .entry) ⌝ }
+fn refusal(number: u8) -> Sent
+    ensures { λ r. ⌜ r ≡ returning.sent number 0 false ⌝ }
 {
-    let mut words = [0u32; WORDS];
-    let mut i = 0;
-    while i < WORDS {
-        words[i] = t[i];
-        i += 1;
+    Sent {
+        number: number,
+        preference: 0,
+        dp: false,
     }
-    words
 }
 
 // What a returning router advertises: 15 for an own algorithm that is not 2 or 3, 6 for address zero. The own entry is passed over. The administrative pair is
@@ -97,30 +113,17 @@ fn copied(t: &[u32]) -> [u32; WORDS]
 // then the reference's preference is sent with DP clear.
 pub fn returning(t: &[u32], address: Address, algorithm: u8, preference: u16, dp: bool) -> Sent
     requires { ⌜ Valid (now t) ⌝ }
-    ensures { λ r. ⌜ r ≡ returningOf (live (tableIn (now (t .entry)))) address algorithm preference dp ⌝ }
+    ensures { λ r. ⌜ r ≡ returningOf (tableIn (now (t .entry)) .entries) address algorithm preference dp ⌝ }
 {
     if algorithm < 2 {
-        return Sent {
-            number: 15,
-            preference: 0,
-            dp: false,
-        };
+        return refusal(ALGORITHM_NOT_USABLE);
     }
     if 3 < algorithm {
-        return Sent {
-            number: 15,
-            preference: 0,
-            dp: false,
-        };
+        return refusal(ALGORITHM_NOT_USABLE);
     }
     if address::is_zero(address) {
-        return Sent {
-            number: 6,
-            preference: 0,
-            dp: false,
-        };
+        return refusal(ADDRESS_ZERO);
     }
-    let mut others = copied(t);
-    table::withdraw(&mut others, address);
-    beside(&others, algorithm, preference, dp)
+    let set = others(t, address);
+    beside(t, set, algorithm, preference, dp)
 }

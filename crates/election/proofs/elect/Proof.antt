@@ -1,7 +1,7 @@
 -- `elect` meets its contract: the checks in their order, and then the answer of an accepted tag and list. Assumes nothing.
 use borrow.Author.Needs.{needs}
-use Rattle.table.specs.Words.{tableIn}
-use Rattle.election.proofs.Answered.{promised, elects-10, elects-11, tag-zero, tag-last, tag-right, asked}
+use Rattle.layout.specs.Words.{tableIn}
+use Rattle.election.proofs.Laws.{promised, elects-10, elects-11, tag-zero, tag-last, tag-right, asked}
 use Rattle.election.proofs.elect.Statement.{statement}
 use Rattle.election.proofs.elect.Tie as tie
 

@@ -1,35 +1,58 @@
--- `elect_accepted` meets its contract: the AC-DF bit in use says which routes are candidates. Assumes nothing.
+-- `elect_accepted` meets its contract: the set is that of the candidates, and the place the elected one among them. Assumes nothing.
+use mathlib.Core.Path.{_≡_, ap, sym, _∙_}
 use borrow.Author.Needs.{needs}
-use mathlib.Core.Path.{ap, sym, _∙_}
-use mathlib.Core.Bool.{Bool}
 use denote.Ref.{now}
-use Rattle.election.specs.Steps.{usedWith}
+use Rattle.layout.specs.Table.{Table}
+use Rattle.layout.specs.Words.{tableIn}
+use Rattle.agreement.specs.Agreement.{inUse}
+use Rattle.agreement.specs.declared.InUse.{InUse}
+use Rattle.ready.specs.Ready.{candidateSet}
+use Rattle.election.proofs.Laws.{set-under, answers-12, answers}
 use Rattle.election.proofs.elect_accepted.Statement.{statement}
 use Rattle.election.proofs.elect_accepted.Tie as tie
 
-in-use-requires : tie.Need-in-use-requires
-in-use-requires c κs = search needs
+-- the set is that of the candidates
+abbrev from : tie.After-candidate-set → tie.Start
+from j = j .before .before .before .before
 
-elect-ready-requires : tie.Need-elect-ready-requires
-elect-ready-requires c κs =
-    let used = c .before in
-    let start = used .before .before .before in
-    (start .pre, sym (used .in-use .ensures) ∙ ap (λ (b : Bool). usedWith (used .in-use .result .algorithm) b) (c .if1 .taken))
+abbrev table : tie.After-candidate-set → Table
+table j = tableIn (now (from j .args .t))
+
+is-set : (j : tie.After-candidate-set) → j .candidate-set .result ≡ candidateSet (inUse (table j .entries) .«ac_df») (now (from j .args .ready)) (table j .entries)
+is-set j = j .candidate-set .ensures ∙ ap (λ (u : InUse). candidateSet (u .«ac_df») (now (from j .args .ready)) (table j .entries)) (j .before .in-use .ensures)
 
 returns : tie.Need-returns
-returns c = search needs
+returns c =
+    let j = c .before .before in
+    rw (c .refusal .ensures) (answers-12 (table j) (from j .pre .sound) (from j .args .tag) (now (from j .args .ready)) _ (is-set j) (c .before .if1 .taken))
 
-elect-all-requires : tie.Need-elect-all-requires
-elect-all-requires c κs =
-    let used = c .before in
-    let start = used .before .before .before in
-    (start .pre, sym (used .in-use .ensures) ∙ ap (λ (b : Bool). usedWith (used .in-use .result .algorithm) b) (c .if1 .left))
+elected-place-requires : tie.Need-elected-place-requires
+elected-place-requires c κs =
+    let j = c .before .before in
+    (from j .pre, c .before .if1 .left, rw (is-set j) (set-under (table j) (from j .pre .sound) (from j .args .tag) (now (from j .args .ready))))
 
 returns-2 : tie.Need-returns-2
 returns-2 c =
-    let start = c .before .before .before .before .before in
-    (c .elect-all .ensures .0 (now (start .args .ready)), c .elect-all .ensures .1)
+    let counted = c .before in
+    let known = counted .before in
+    let placed = known .before in
+    let digested = placed .before in
+    let tested = digested .before in
+    let j = tested .before in
+    rw (c .named .ensures, known .address-at .ensures)
+    (answers (table j) (from j .pre .sound) (from j .args .tag) (now (from j .args .ready)) _ _ _ _ _ (j .before .in-use .ensures) (is-set j) (tested .if1 .left) (digested .digest-under .ensures) (placed .elected-place .ensures .1) (counted .count .ensures .0) (counted .count .ensures .1))
 
 pub elect-accepted-spec : {M : Type 1} → statement M
 elect-accepted-spec =
-    tie.close (tie.spec in-use-requires elect-ready-requires returns elect-all-requires returns-2)
+    tie.close
+    (tie.spec
+    (λ c κs. search needs)
+    (λ c κs. search needs)
+    (λ c κs. search needs)
+    returns
+    (λ c κs. search needs)
+    elected-place-requires
+    (λ c κs. search needs)
+    (λ c κs. search needs)
+    (λ c κs. search needs)
+    returns-2)

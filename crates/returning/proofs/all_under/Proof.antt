@@ -1,68 +1,72 @@
--- `all_under` meets its contract: at every turn, the routes from the present place on decide. Assumes nothing.
-use borrow.Author.Needs.{needs}
-use Prim.Native.Nat.{_≤_, _-_}
+-- `all_under` meets its contract: at every turn, all of the set carry the algorithm exactly if those left do. Assumes nothing.
+use Prim.Native.Nat.{ℕ, _<_, _^_}
+use native.Mathlib.Nat.{lt-of-lt-of-le}
 use native.Mathlib.Omega.{arith}
-use mathlib.Core.Path.{_≡_, refl, _∙_, sym}
-use lib.ListN.{drop}
-use Rattle.table.specs.Table.{live}
-use Rattle.table.specs.Words.{tableIn}
-use Rattle.table.proofs.Words.{length-valid, algorithm-word}
+use mathlib.Core.Path.{_≡_, refl, ap, sym, _∙_}
+use mathlib.Core.List.{List, _∷_}
+use borrow.Author.Needs.{needs}
+use denote.Ref.{now}
+use lib.ListN.{length, drop}
+use lib.Pow.{pow-mono}
+use Rattle.layout.specs.Words.{tableIn}
+use Rattle.places.specs.Places.{places}
+use Rattle.places.proofs.Laws.{places-walk, first-under}
+use Rattle.winner.specs.Winner.{entriesAt}
 use Rattle.returning.specs.Returning.{allUnder}
-use Rattle.returning.proofs.Laws.{under-other, under-same, under-end}
+use Rattle.returning.proofs.Laws.{under, under-end, under-other, under-same}
 use Rattle.returning.proofs.all_under.Statement.{statement}
 use Rattle.returning.proofs.all_under.Tie as tie
 
 abbrev Inv-loop : tie.InvT-loop
-Inv-loop t algorithm n wanted i₀ i = (i ≤ tableIn t .count) × (allUnder algorithm (live (tableIn t)) ≡ allUnder algorithm (drop i (live (tableIn t))))
+Inv-loop t set algorithm wanted left₀ left = (left < 2 ^ length (tableIn t .entries)) × (under (tableIn t .entries) algorithm left ≡ under (tableIn t .entries) algorithm set)
 
 abbrev μ-loop : tie.MeasureT-loop
-μ-loop t algorithm n wanted i₀ i = n - i
-
-count-requires : tie.Need-count-requires Inv-loop μ-loop
-count-requires c κs = search needs
+μ-loop t set algorithm wanted left₀ left = left
 
 loop-holds : tie.Need-loop-holds Inv-loop μ-loop
-loop-holds c = (omega arith, refl)
+loop-holds c = (c .before .pre .1, refl)
 
-add-if1 : tie.Need-add-if1 Inv-loop μ-loop
-add-if1 c = omega (arith, c .before .before .count .ensures, c .before .before .before .before .pre .sound .short)
+-- the first place is in use, and the places are it and the rest
+low : (c : tie.After-first Inv-loop μ-loop) → c .first .result < length (tableIn (c .before .before .before .before .args .t .now) .entries)
+low c =
+    let turn = c .before .before in
+    let start = turn .before .before in
+    rw (c .first .ensures) (first-under (turn .loop .left) _ (turn .loop .inv .0) (start .pre .0 .sound .short) (c .before .loop-test .taken))
 
-mul-if1 : tie.Need-mul-if1 Inv-loop μ-loop
-mul-if1 c = omega (arith, c .before .before .count .ensures, c .before .before .before .before .pre .sound .short)
+walk : (c : tie.After-first Inv-loop μ-loop) → places (c .before .before .loop .left) ≡ c .first .result ∷ drop 1 (places (c .before .before .loop .left))
+walk c =
+    let turn = c .before .before in
+    let s = turn .loop .left in
+    let fits = lt-of-lt-of-le (turn .loop .inv .0) (pow-mono (turn .before .before .pre .0 .sound .short)) in
+    places-walk s fits (c .before .loop-test .taken) ∙ ap (λ (f : ℕ). f ∷ drop 1 (places s)) (sym (c .first .ensures))
 
-shared-slice-read-if1 : tie.Need-shared-slice-read-if1 Inv-loop μ-loop
-shared-slice-read-if1 c = let start = c .before .before .before .before .before in omega (arith, c .before .before .before .count .ensures, start .pre .sound .short, length-valid (start .args .t .now) (start .pre))
+algorithm-at-requires : tie.Need-algorithm-at-requires Inv-loop μ-loop
+algorithm-at-requires c κs = (c .before .before .before .before .pre .0, low c)
 
 returns : tie.Need-returns Inv-loop μ-loop
 returns c =
-    let start = c .before .before .before .before .before .before in
-    let turn = c .before .before .before in
-    let b = start .args .t .now in
-    let i = turn .loop .i in
-    let l = c .before .before .before .before .count .ensures in
-    under-other (tableIn b) (start .pre .sound) (start .args .algorithm) i (omega arith) (λ e. c .if1 .taken (algorithm-word b (start .pre) i (omega (arith, start .pre .sound .short)) ∙ e)) ∙ sym (turn .loop .inv .1)
-
-add-i : tie.Need-add-i Inv-loop μ-loop
-add-i c = omega (arith, c .before .before .before .before .count .ensures, c .before .before .before .before .before .before .pre .sound .short)
-
-loop-less : tie.Need-loop-less Inv-loop μ-loop
-loop-less c = omega arith
+    let known = c .before in
+    let first = known .before in
+    let turn = first .before .before in
+    let start = turn .before .before in
+    under-other (tableIn (now (start .args .t)) .entries) (start .args .algorithm) (turn .loop .left) _ _ _ (walk first) (known .algorithm-at .ensures) (c .if1 .taken) ∙ turn .loop .inv .1
 
 loop-again : tie.Need-loop-again Inv-loop μ-loop
 loop-again c =
-    let start = c .before .before .before .before .before .before in
-    let turn = c .before .before .before in
-    let b = start .args .t .now in
-    let i = turn .loop .i in
-    let l = c .before .before .before .before .count .ensures in
-    (omega arith, turn .loop .inv .1 ∙ under-same (tableIn b) (start .pre .sound) (start .args .algorithm) i (omega arith) (sym (algorithm-word b (start .pre) i (omega (arith, start .pre .sound .short))) ∙ c .if1 .left))
+    let tested = c .before in
+    let known = tested .before in
+    let first = known .before in
+    let turn = first .before .before in
+    let start = turn .before .before in
+    let es = tableIn (start .args .t .now) .entries in
+    let same = under-same es (start .args .algorithm) (turn .loop .left) _ _ _ (walk first) (known .algorithm-at .ensures) (tested .if1 .left) in
+    (omega (arith, c .rest .ensures .1 (first .before .loop-test .taken), turn .loop .inv .0), ap (λ (l : List ℕ). allUnder (start .args .algorithm) (entriesAt es l)) (c .rest .ensures .0) ∙ sym same ∙ turn .loop .inv .1)
 
 returns-2 : tie.Need-returns-2 Inv-loop μ-loop
 returns-2 c =
-    let start = c .before .before .before .before in
     let turn = c .before in
-    let l = c .before .before .count .ensures in
-    under-end (tableIn (start .args .t .now)) (start .pre .sound) (start .args .algorithm) (turn .loop .i) (omega arith) ∙ sym (turn .loop .inv .1)
+    let start = turn .before .before in
+    under-end (tableIn (now (start .args .t)) .entries) (start .args .algorithm) (turn .loop .left) (c .loop-test .left) ∙ turn .loop .inv .1
 
 pub all-under-spec : {M : Type 1} → statement M
 all-under-spec =
@@ -70,13 +74,11 @@ all-under-spec =
     (tie.spec
     Inv-loop
     μ-loop
-    count-requires
     loop-holds
-    add-if1
-    mul-if1
-    shared-slice-read-if1
+    (λ c κs. search needs)
+    algorithm-at-requires
     returns
-    add-i
-    loop-less
+    (λ c κs. search needs)
+    (λ c. c .rest .ensures .1 (c .before .before .before .before .loop-test .taken))
     loop-again
     returns-2)

@@ -1,66 +1,59 @@
--- `returning` meets its contract: the checks, and then what is sent beside the other routes. Assumes nothing.
-use Prim.Native.Nat.{ℕ}
+-- `returning` meets its contract: the checks in their order, and then what is sent beside the other routes. Assumes nothing.
 use native.Mathlib.Omega.{arith}
-use mathlib.Core.Path.{sym, ap, _∙_}
+use mathlib.Core.Path.{_≡_, ap, sym, _∙_}
 use mathlib.Core.List.{List}
-use Rattle.table.specs.Table.{Table, live, withdrawn}
-use Rattle.table.specs.Words.{tableIn}
-use Rattle.returning.specs.Returning.{advertised}
-use Rattle.returning.proofs.Laws.{others-live, wrong-algorithm, zero-address, sent-beside}
 use borrow.Author.Needs.{needs}
+use denote.Ref.{now}
+use Rattle.layout.specs.Table.{Entry}
+use Rattle.layout.specs.Words.{tableIn}
+use Rattle.returning.specs.Returning.{advertised}
+use Rattle.returning.proofs.Laws.{wrong-algorithm, zero-address, sent-beside}
 use Rattle.returning.proofs.returning.Statement.{statement}
 use Rattle.returning.proofs.returning.Tie as tie
 
+abbrev es : tie.Start → List Entry
+es s = tableIn (now (s .args .t)) .entries
+
 returns : tie.Need-returns
-returns c = wrong-algorithm _ _ _ _ _ (λ e. omega arith) (λ e. omega arith)
+returns c =
+    let s = c .before .before .before in
+    c .refusal .ensures ∙ wrong-algorithm (es s) (s .args .address) (s .args .algorithm) (s .args .preference) (s .args .dp) (λ e. omega (arith, c .before .if1 .taken)) (λ e. omega (arith, c .before .if1 .taken))
 
 returns-2 : tie.Need-returns-2
-returns-2 c = wrong-algorithm _ _ _ _ _ (λ e. omega arith) (λ e. omega arith)
-
-is-zero-requires : tie.Need-is-zero-requires
-is-zero-requires c κs = search needs
+returns-2 c =
+    let s = c .before .before .before .before in
+    c .refusal2 .ensures ∙ wrong-algorithm (es s) (s .args .address) (s .args .algorithm) (s .args .preference) (s .args .dp) (λ e. omega (arith, c .before .if2 .taken)) (λ e. omega (arith, c .before .if2 .taken))
 
 returns-3 : tie.Need-returns-3
-returns-3 c = zero-address _ _ _ _ _ (omega arith) (omega arith) (sym (c .before .is-zero .ensures) ∙ c .if3 .taken)
-
-copied-requires : tie.Need-copied-requires
-copied-requires c κs = search needs
-
-slice-aggregate-withdraw : tie.Need-slice-aggregate-withdraw
-slice-aggregate-withdraw c = search needs
-
-withdraw-requires : tie.Need-withdraw-requires
-withdraw-requires c κs = let start = c .before .before .before .before .before .before .before in rw (c .before .copied .ensures) (start .pre)
-
-slice-aggregate-beside : tie.Need-slice-aggregate-beside
-slice-aggregate-beside c = search needs
-
-beside-requires : tie.Need-beside-requires
-beside-requires c κs = c .before .before .withdraw .ensures .1
+returns-3 c =
+    let called = c .before .before in
+    let second = called .before in
+    let first = second .before in
+    let s = first .before .before in
+    c .refusal3 .ensures ∙ zero-address (es s) (s .args .address) (s .args .algorithm) (s .args .preference) (s .args .dp) (first .if1 .left) (second .if2 .left) (sym (called .is-zero .ensures) ∙ c .before .if3 .taken)
 
 returns-4 : tie.Need-returns-4
 returns-4 c =
-    let start = c .before .before .before .before .before .before .before .before .before .before .before in
-    let a = start .args in
-    let b = a .t .now in
-    let z = sym (c .before .before .before .before .before .before .before .is-zero .ensures) ∙ c .before .before .before .before .before .before .if3 .left in
-    let gone = c .before .before .before .withdraw .ensures .0 .2 ∙ ap (λ (s : List ℕ). withdrawn (tableIn s) (a .address) .table) (c .before .before .before .before .before .copied .ensures) in
+    let told = c .before in
+    let called = told .before .before in
+    let second = called .before in
+    let first = second .before in
+    let s = first .before .before in
     c .beside .ensures
-    ∙ ap (λ (u : Table). advertised (a .algorithm) (a .preference) (a .dp) (live u)) gone
-    ∙ ap (advertised (a .algorithm) (a .preference) (a .dp)) (others-live (tableIn b) (start .pre .sound) (a .address) z)
-    ∙ sent-beside (live (tableIn b)) (a .address) (a .algorithm) (a .preference) (a .dp) (omega arith) (omega arith) z
+    ∙ ap (λ (l : List Entry). advertised (s .args .algorithm) (s .args .preference) (s .args .dp) l) (told .others .ensures .1)
+    ∙ sent-beside (es s) (s .args .address) (s .args .algorithm) (s .args .preference) (s .args .dp) (first .if1 .left) (second .if2 .left) (sym (called .is-zero .ensures) ∙ told .before .if3 .left)
 
 pub returning-spec : {M : Type 1} → statement M
 returning-spec =
     tie.close
     (tie.spec
+    (λ c κs. search needs)
     returns
+    (λ c κs. search needs)
     returns-2
-    is-zero-requires
+    (λ c κs. search needs)
+    (λ c κs. search needs)
     returns-3
-    copied-requires
-    slice-aggregate-withdraw
-    withdraw-requires
-    slice-aggregate-beside
-    beside-requires
+    (λ c κs. search needs)
+    (λ c κs. search needs)
     returns-4)

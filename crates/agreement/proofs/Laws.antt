@@ -1,0 +1,105 @@
+-- The algorithm in use, from the kinds of the entries. Assumes nothing.
+use Prim.Native.Nat.{ℕ, zero, suc, _+_, _*_, _/_, _%_, _≤_, _<_}
+use native.Mathlib.Numerals.{add-one}
+use native.Mathlib.Omega.{arith}
+use mathlib.Core.Path.{_≡_, refl, ap, ap₂, _∙_, sym}
+use mathlib.Core.Bool.{Bool, true, false, cond, _&&_, Bool·beq, and-false, and-true}
+use mathlib.Core.List.{List, [], _∷_}
+use lib.ListN.{length, getD, drop, drop-of-length-le}
+use lib.Seq.{drop-cons}
+use lib.Dec.{ltb, eqb}
+use borrow.Author.Tests.{lt-ltb, le-ltb, eq-eqb, ne-eqb}
+use Rattle.keyed.proofs.Order.{Same, yea, nay, same}
+use Rattle.layout.specs.Table.{Entry, noEntry}
+use Rattle.layout.specs.Words.{bit, kindOf}
+use Rattle.layout.proofs.Words.{bit-less}
+use Rattle.agreement.specs.Agreement.{carries, allCarry, fallback, inUse}
+use Rattle.agreement.specs.Steps.{allOfKind}
+use Rattle.agreement.specs.declared.InUse.{InUse}
+
+-- A WALK over entries: all before place i were of the kind, and those from there on are, exactly if all are
+module _ (k : ℕ) (es : List Entry) where
+  kind-step : (i : ℕ) → i < length es → allOfKind k (drop i es) ≡ (eqb (kindOf (getD es i noEntry)) k && allOfKind k (drop (i + 1) es))
+  unfolding allOfKind
+  kind-step i h = rw (add-one, drop-cons es i noEntry h)
+
+  module _ (i : ℕ) (h : i < length es) (b : Bool) (q : (b && allOfKind k (drop i es)) ≡ allOfKind k es) where
+    pub kind-other : (kindOf (getD es i noEntry) ≡ k → ⊥) → (false && allOfKind k (drop (i + 1) es)) ≡ allOfKind k es
+    kind-other n = sym (ap (b &&_) (kind-step i h ∙ rw (ne-eqb _ k n)) ∙ and-false b) ∙ q
+
+    pub kind-same : kindOf (getD es i noEntry) ≡ k → (b && allOfKind k (drop (i + 1) es)) ≡ allOfKind k es
+    kind-same e = sym (ap (b &&_) (kind-step i h ∙ rw (eq-eqb _ k e))) ∙ q
+
+  pub kind-end : (i : ℕ) (b : Bool) → length es ≤ i → (b && allOfKind k (drop i es)) ≡ allOfKind k es → b ≡ allOfKind k es
+  unfolding allOfKind
+  kind-end i b h q = sym (ap (λ (l : List Entry). b && allOfKind k l) (drop-of-length-le es {i = i} h) ∙ and-true b) ∙ q
+
+-- A KIND is an algorithm and an AC-DF bit
+kind-eqb : (x a : ℕ) (p q : Bool) → eqb (x * 2 + bit p) (a * 2 + bit q) ≡ (eqb x a && Bool·beq p q)
+kind-eqb x a p q = go (same x a) p q
+  where
+    go : Same x a → (p q : Bool) → eqb (x * 2 + bit p) (a * 2 + bit q) ≡ (eqb x a && Bool·beq p q)
+    go (yea e) true true = rw (eq-eqb x a e, eq-eqb (x * 2 + 1) (a * 2 + 1) (omega arith))
+    go (yea e) true false = rw (eq-eqb x a e, ne-eqb (x * 2 + 1) (a * 2 + 0) (λ f. omega arith))
+    go (yea e) false true = rw (eq-eqb x a e, ne-eqb (x * 2 + 0) (a * 2 + 1) (λ f. omega arith))
+    go (yea e) false false = rw (eq-eqb x a e, eq-eqb (x * 2 + 0) (a * 2 + 0) (omega arith))
+    go (nay n) true true = rw (ne-eqb x a n, ne-eqb (x * 2 + 1) (a * 2 + 1) (λ f. n (omega arith)))
+    go (nay n) true false = rw (ne-eqb x a n, ne-eqb (x * 2 + 1) (a * 2 + 0) (λ f. omega arith))
+    go (nay n) false true = rw (ne-eqb x a n, ne-eqb (x * 2 + 0) (a * 2 + 1) (λ f. omega arith))
+    go (nay n) false false = rw (ne-eqb x a n, ne-eqb (x * 2 + 0) (a * 2 + 0) (λ f. n (omega arith)))
+
+kind-carry : (e : Entry) (l : List Entry) → allOfKind (kindOf e) l ≡ allCarry (e .algorithm) (e .«ac_df») l
+unfolding allOfKind allCarry kindOf
+kind-carry e [] = refl
+kind-carry e (x ∷ l) = ap₂ _&&_ (kind-eqb (x .algorithm) (e .algorithm) (x .«ac_df») (e .«ac_df»)) (kind-carry e l)
+
+-- THE ALGORITHM IN USE
+carries-own : (a : ℕ) (ac : Bool) → (eqb a a && Bool·beq ac ac) ≡ true
+carries-own a true = rw (eq-eqb a a refl)
+carries-own a false = rw (eq-eqb a a refl)
+
+abbrev usedBy : Entry → InUse
+usedBy e = record { algorithm = e .algorithm; «ac_df» = e .«ac_df» }
+
+in-use-first : (e : Entry) (l : List Entry) → inUse (e ∷ l) ≡ cond (ltb (e .algorithm) 4 && allOfKind (kindOf e) (e ∷ l)) (usedBy e) fallback
+unfolding inUse allCarry
+in-use-first e l = rw (kind-carry e (e ∷ l), carries-own (e .algorithm) (e .«ac_df»))
+
+kind-halves : (e : Entry) → (kindOf e / 2 ≡ e .algorithm) × (eqb (kindOf e % 2) 1 ≡ e .«ac_df»)
+unfolding kindOf
+kind-halves e = go (e .«ac_df»)
+  where
+    go : (b : Bool) → ((e .algorithm * 2 + bit b) / 2 ≡ e .algorithm) × (eqb ((e .algorithm * 2 + bit b) % 2) 1 ≡ b)
+    go true = (omega arith, eq-eqb ((e .algorithm * 2 + 1) % 2) 1 (omega arith))
+    go false = (omega arith, ne-eqb ((e .algorithm * 2 + 0) % 2) 1 (λ f. omega arith))
+
+module _ (es : List Entry) where
+  pub in-use-empty : length es ≡ 0 → fallback ≡ inUse es
+  unfolding inUse
+  in-use-empty z = go es z
+    where
+      go : (l : List Entry) → length l ≡ 0 → fallback ≡ inUse l
+      go [] z = refl
+      go (e ∷ l) z = absurd (omega arith)
+
+  module _ (some : 0 < length es) (k : ℕ) (q : k ≡ kindOf (getD es 0 noEntry)) where
+    abbrev first : Entry
+    first = getD es 0 noEntry
+
+    by-first : inUse es ≡ cond (ltb (first .algorithm) 4 && allOfKind k es) (usedBy first) fallback
+    by-first = rw q (go es some)
+      where
+        go : (l : List Entry) → 0 < length l → inUse l ≡ cond (ltb (getD l 0 noEntry .algorithm) 4 && allOfKind (kindOf (getD l 0 noEntry)) l) (usedBy (getD l 0 noEntry)) fallback
+        go [] h = absurd (omega arith)
+        go (e ∷ l) h = in-use-first e l
+
+    pub in-use-high : 7 < k → fallback ≡ inUse es
+    in-use-high h = sym (by-first ∙ rw (le-ltb (first .algorithm) 4 (omega (arith, q, kind-halves first .0))))
+
+    pub in-use-differs : allOfKind k es ≡ false → fallback ≡ inUse es
+    in-use-differs d = sym (by-first ∙ rw (d, and-false (ltb (first .algorithm) 4)))
+
+    pub in-use-agreed : k ≤ 7 → allOfKind k es ≡ true → record { algorithm = k / 2; «ac_df» = eqb (k % 2) 1 } ≡ inUse es
+    in-use-agreed h d =
+        let e = kind-halves first in
+        sym (by-first ∙ rw (lt-ltb (first .algorithm) 4 (omega (arith, q, e .0)), d) (rw (q, e .0, e .1)))

@@ -1,0 +1,99 @@
+-- The set of places whose address is on a ready list, address by address, and the candidate set. Assumes nothing.
+use Prim.Native.Nat.{ℕ, suc, _+_, _≤_, _<_, min}
+use native.Mathlib.Nat.{le-of-suc-le-suc, not-suc-le-zero}
+use native.Mathlib.Numerals.{add-one}
+use native.Mathlib.Omega.{arith}
+use mathlib.Core.Path.{_≡_, refl, ap, ap₂, _∙_, sym}
+use mathlib.Core.Bool.{Bool, true, false, _||_, or-assoc, or-false, or-true}
+use mathlib.Core.List.{List, [], _∷_, _++_, map}
+use lib.ListN.{length, getD, set, take, replicate, length-map}
+use lib.Seq.{take-suc}
+use lib.Dec.{eqb}
+use borrow.Author.Tests.{eq-eqb, ne-eqb, eqb-false, lt-ltb, le-ltb}
+use Rattle.address.specs.Address.{addressKey}
+use Rattle.keyed.specs.Keyed.{Rising, has, rank}
+use Rattle.keyed.proofs.Keyed.{either, Present, present-of, has-below}
+use Rattle.keyed.proofs.Order.{or-left, or-right}
+use Rattle.rows.specs.Rows.{foundIn}
+use Rattle.rows.specs.declared.Found.the-variants.{At, Missing}
+use Rattle.rows.proofs.Places.{found-at, found-missing, at-lt}
+use Rattle.layout.specs.Table.{Entry, entryKey, noEntry}
+use Rattle.places.specs.Places.{setOf, withPlace}
+use Rattle.places.proofs.Flags.{withPlace-set}
+use Rattle.ready.specs.Ready.{onList, eligible, candidates, candidateSet}
+
+-- one key more on a list of flags
+module _ {A : Type 0} (key : A → ℕ) (f : A → Bool) (k : ℕ) where
+  abbrev marked : A → Bool
+  marked x = f x || eqb k (key x)
+
+  mark-absent : (l : List A) → has key k l ≡ false → map marked l ≡ map f l
+  unfolding has
+  mark-absent [] h = refl
+  mark-absent (x ∷ l) h =
+      let n : k ≡ key x → ⊥ = λ e. eqb-false (key x) k (or-left (eqb (key x) k) (has key k l) h) (sym e) in
+      ap₂ (λ (b : Bool) (m : List Bool). b ∷ m) (rw (ne-eqb k (key x) n) (or-false (f x))) (mark-absent l (or-right (eqb (key x) k) (has key k l) h))
+
+  mark-present : (l : List A) (n : ℕ) (d : A) → Rising key n l → Present key k l d → map marked l ≡ set (map f l) (rank key k l) true
+  unfolding rank Rising
+  mark-present [] n d r = λ p. absurd (not-suc-le-zero (p .0))
+  mark-present (x ∷ l) n d r =
+      either (key x) k
+      (λ p. rw (lt-ltb (key x) k p, ne-eqb k (key x) (λ e. omega arith), or-false (f x)) (λ q. ap (f x ∷_) (mark-present l (suc (key x)) d (r .1) (le-of-suc-le-suc (q .0), q .1))))
+      (λ p. rw (le-ltb (key x) k p) (λ q.
+      rw (eq-eqb k (key x) (sym (q .1)), or-true (f x)) (ap (true ∷_) (mark-absent l (has-below key k l (suc (key x)) (r .1) (omega (arith, q .1)))))))
+
+-- THE READY SET of entries
+abbrev pub flags : List ℕ → List Entry → List Bool
+flags rs l = map (λ (e : Entry). onList rs (e .address)) l
+
+on-snoc : (rs : List ℕ) (b a : ℕ) → onList (rs ++ b ∷ []) a ≡ (onList rs a || eqb (addressKey b) (addressKey a))
+unfolding onList
+on-snoc [] b a = or-false (eqb (addressKey b) (addressKey a))
+on-snoc (r ∷ rs) b a =
+    ap (λ (x : Bool). eqb (addressKey r) (addressKey a) || x) (on-snoc rs b a)
+    ∙ sym (or-assoc (eqb (addressKey r) (addressKey a)) (onList rs a) (eqb (addressKey b) (addressKey a)))
+
+flags-snoc : (rs : List ℕ) (b : ℕ) (l : List Entry) → flags (rs ++ b ∷ []) l ≡ map (marked entryKey (λ (e : Entry). onList rs (e .address)) (addressKey b)) l
+flags-snoc rs b [] = refl
+flags-snoc rs b (e ∷ l) = ap₂ (λ (x : Bool) (m : List Bool). x ∷ m) (on-snoc rs b (e .address)) (flags-snoc rs b l)
+
+pub ready-none : (l : List Entry) → 0 ≡ setOf (flags [] l)
+unfolding setOf onList
+ready-none [] = refl
+ready-none (e ∷ l) = rw (← ready-none l)
+
+module _ (es : List Entry) (short : length es ≤ 64) (rising : Rising entryKey 1 es) (ready : List ℕ) (i : ℕ) (h : i < length ready) (s : ℕ) (q : s ≡ setOf (flags (take i ready) es)) where
+  abbrev k : ℕ
+  k = addressKey (getD ready i 0)
+
+  abbrev before : Entry → Bool
+  before e = onList (take i ready) (e .address)
+
+  next : flags (take (i + 1) ready) es ≡ map (marked entryKey before k) es
+  next = rw (add-one, take-suc ready i 0 h) (flags-snoc (take i ready) (getD ready i 0) es)
+
+  pub ready-found : (j : ℕ) → foundIn entryKey k es ≡ At j → withPlace s j ≡ setOf (flags (take (i + 1) ready) es)
+  ready-found j f =
+      let p = found-at entryKey k es j f in
+      let l : length (flags (take i ready) es) ≡ length es = length-map es before in
+      rw (q, next, mark-present entryKey before k es 1 noEntry rising (present-of entryKey k es 1 noEntry rising (p .0)), p .1)
+      (withPlace-set (flags (take i ready) es) j (omega (arith, at-lt entryKey k es 1 noEntry rising j f, l)) (omega (arith, l)))
+
+  pub ready-stranger : (j : ℕ) → foundIn entryKey k es ≡ Missing j → s ≡ setOf (flags (take (i + 1) ready) es)
+  ready-stranger j f = q ∙ ap setOf (sym (next ∙ mark-absent entryKey before k es (found-missing entryKey k es j f .0)))
+
+-- THE CANDIDATE SET
+pub set-ready : (ready : List ℕ) (l : List Entry) (ac : Bool) → ac ≡ true → setOf (flags ready l) ≡ candidateSet ac ready l
+unfolding candidateSet eligible
+set-ready ready l ac b = rw b
+
+pub set-all : (ready : List ℕ) (l : List Entry) (ac : Bool) (n : ℕ) → ac ≡ false → n ≡ length l → length l ≤ 64 → setOf (replicate (min n 64) true) ≡ candidateSet ac ready l
+unfolding candidateSet eligible
+set-all ready l ac n b e h =
+    let m : min n 64 ≡ length l = omega arith in
+    rw (m, b) (ap setOf (all l))
+  where
+    all : (m : List Entry) → replicate (length m) true ≡ map (λ (x : Entry). true) m
+    all [] = refl
+    all (x ∷ m) = ap (true ∷_) (all m)

@@ -1,0 +1,45 @@
+// The candidates of an election as a set of places of the table: all routes or, with AC-DF in use, those whose address is on the ready list.
+use address::Address;
+use rows::Found;
+ghost use mathlib.Core.Path.{_≡_};
+ghost use mathlib.Core.List.{map};
+ghost use Rattle.layout.specs.Words.{tableIn, Valid};
+ghost use Rattle.places.specs.Places.{setOf};
+ghost use Rattle.ready.specs.Ready.{onList, candidateSet};
+
+// The set of the places whose address is on the ready list. Repeats and strangers in the list do no harm. An address is looked for first at the
+// place after the one before it on the list, where it stands if the list rises as the table does.
+pub fn ready_set(t: &[u32], ready: &[Address]) -> u64
+    requires { ⌜ Valid (now t) ⌝ }
+    ensures { λ r. ⌜ r ≡ setOf (map (λ e. onList (now (ready .entry)) (e .address)) (tableIn (now (t .entry)) .entries)) ⌝ }
+{
+    let mut set = 0;
+    let mut first = 0;
+    let mut next = 0;
+    while next < ready.len() {
+        let looked = layout::lookup(t, first, ready[next]);
+        let found = looked.found;
+        match found {
+            Found::At(at) => {
+                set = places::with(set, at);
+                first = at + 1;
+            }
+            Found::Missing(at) => {
+                first = at;
+            }
+        }
+        next += 1;
+    }
+    set
+}
+
+// The candidate set: all places in use or, with AC-DF in use, those on the ready list.
+pub fn candidate_set(t: &[u32], ac_df: bool, ready: &[Address]) -> u64
+    requires { ⌜ Valid (now t) ⌝ }
+    ensures { λ r. ⌜ r ≡ candidateSet «ac_df» (now (ready .entry)) (tableIn (now (t .entry)) .entries) ⌝ }
+{
+    if ac_df {
+        return ready_set(t, ready);
+    }
+    places::below(layout::count(t))
+}

@@ -1,0 +1,90 @@
+-- The order of candidates by score and address is document 01's order, and document 01's order tells addresses apart. Assumes nothing.
+use Prim.Native.Nat.{ℕ, _+_, _-_, _*_, _≤_, _<_}
+use native.Mathlib.Omega.{arith}
+use mathlib.Core.Path.{_≡_, refl, ap, ap₂, _∙_, sym}
+use mathlib.Core.Bool.{Bool, true, false, cond, not, _&&_}
+use lib.Dec.{ltb, eqb}
+use borrow.Author.Tests.{lt-ltb, le-ltb}
+use Rattle.keyed.proofs.Order.{Tri, less, equal, more, tri}
+use Rattle.layout.specs.Table.{Entry, entryKey}
+use Rattle.layout.specs.Words.{bit}
+use Rattle.layout.proofs.Words.{Narrow}
+use Rattle.hrw.specs.Weight.{weightOf}
+use Rattle.choice.specs.Choice.{decided, higher, lower, andThen, byScore}
+use Rattle.choice.proofs.Laws.{Order}
+use Rattle.choice.proofs.Criteria.{criterion-higher, criterion-lower, criterion-flagged, order-lower, order-then, order-byScore}
+use Rattle.winner.specs.Winner.{byWeight, byPreference, better}
+use Rattle.winner.specs.Steps.{scoreOf}
+
+order-preference : (lowest : Bool) → Order entryKey (byPreference lowest)
+order-preference true = order-then _ _ entryKey (criterion-lower (λ (e : Entry). e .preference)) (order-then _ _ entryKey (criterion-flagged (λ (e : Entry). e .dp)) (order-lower entryKey))
+order-preference false = order-then _ _ entryKey (criterion-higher (λ (e : Entry). e .preference)) (order-then _ _ entryKey (criterion-flagged (λ (e : Entry). e .dp)) (order-lower entryKey))
+
+pub order-better : (a d : ℕ) → Order entryKey (better a d)
+unfolding better
+order-better a d = go (eqb a 1)
+  where
+    go : (b : Bool) → Order entryKey (cond b (byWeight d) (byPreference (eqb a 3)))
+    go true = order-byScore (λ (e : Entry). weightOf (e .address) d) entryKey
+    go false = order-preference (eqb a 3)
+
+-- under algorithms other than 1 the digest plays no part
+pub better-any : (a d f : ℕ) → eqb a 1 ≡ false → better a d ≡ better a f
+unfolding better
+better-any a d f n = rw n
+
+-- A SCORE: preference and DP as one number decide as the two criteria do
+abbrev withBit : ℕ → Bool → ℕ
+withBit p b = p * 2 + bit b
+
+module _ (p q : ℕ) where
+  with-higher : (b c : Bool) (r : Bool) → decided (ltb q p) (ltb p q) (decided (b && not c) (c && not b) r) ≡ decided (ltb (withBit q c) (withBit p b)) (ltb (withBit p b) (withBit q c)) r
+  with-higher b c r = go (tri p q) b c
+    where
+      go : Tri p q → (b c : Bool) → decided (ltb q p) (ltb p q) (decided (b && not c) (c && not b) r) ≡ decided (ltb (withBit q c) (withBit p b)) (ltb (withBit p b) (withBit q c)) r
+      go (less h) b c = rw (le-ltb q p (omega arith), lt-ltb p q h, le-ltb (withBit q c) (withBit p b) (high b c), lt-ltb (withBit p b) (withBit q c) (above b c))
+        where
+          above : (b c : Bool) → withBit p b < withBit q c
+          above true true = omega arith
+          above true false = omega arith
+          above false true = omega arith
+          above false false = omega arith
+
+          high : (b c : Bool) → withBit p b ≤ withBit q c
+          high b c = omega (arith, above b c)
+      go (equal h) true true = rw (le-ltb q p (omega arith), le-ltb p q (omega arith), le-ltb (withBit q true) (withBit p true) (omega arith), le-ltb (withBit p true) (withBit q true) (omega arith))
+      go (equal h) true false = rw (le-ltb q p (omega arith), le-ltb p q (omega arith), lt-ltb (withBit q false) (withBit p true) (omega arith))
+      go (equal h) false true = rw (le-ltb q p (omega arith), le-ltb p q (omega arith), le-ltb (withBit q true) (withBit p false) (omega arith), lt-ltb (withBit p false) (withBit q true) (omega arith))
+      go (equal h) false false = rw (le-ltb q p (omega arith), le-ltb p q (omega arith), le-ltb (withBit q false) (withBit p false) (omega arith), le-ltb (withBit p false) (withBit q false) (omega arith))
+      go (more h) b c = rw (lt-ltb q p h, lt-ltb (withBit q c) (withBit p b) (below b c))
+        where
+          below : (b c : Bool) → withBit q c < withBit p b
+          below true true = omega arith
+          below true false = omega arith
+          below false true = omega arith
+          below false false = omega arith
+
+-- counted from above, the lower number is the higher
+from-above : (p q : ℕ) → p < 65536 → q < 65536 → ltb p q ≡ ltb (65535 - q) (65535 - p)
+from-above p q h k = go (tri p q)
+  where
+    go : Tri p q → ltb p q ≡ ltb (65535 - q) (65535 - p)
+    go (less l) = lt-ltb p q l ∙ sym (lt-ltb (65535 - q) (65535 - p) (omega arith))
+    go (equal e) = le-ltb p q (omega arith) ∙ sym (le-ltb (65535 - q) (65535 - p) (omega arith))
+    go (more m) = le-ltb p q (omega arith) ∙ sym (le-ltb (65535 - q) (65535 - p) (omega arith))
+
+pub better-score : (a d : ℕ) (x y : Entry) → Narrow x → Narrow y → better a d x y ≡ byScore (scoreOf a d) entryKey x y
+unfolding better scoreOf
+better-score a d x y h k = go (eqb a 1) (eqb a 3)
+  where
+    go : (b c : Bool) → cond b (byWeight d) (byPreference c) x y
+        ≡ decided
+        (ltb (cond b (weightOf (y .address) d) (withBit (cond c (65535 - y .preference) (y .preference)) (y .dp))) (cond b (weightOf (x .address) d) (withBit (cond c (65535 - x .preference) (x .preference)) (x .dp))))
+        (ltb (cond b (weightOf (x .address) d) (withBit (cond c (65535 - x .preference) (x .preference)) (x .dp))) (cond b (weightOf (y .address) d) (withBit (cond c (65535 - y .preference) (y .preference)) (y .dp))))
+        (ltb (entryKey x) (entryKey y))
+    go true c = refl
+    go false true =
+        ap₂ (λ (s t : Bool). decided s t (decided (x .dp && not (y .dp)) (y .dp && not (x .dp)) (ltb (entryKey x) (entryKey y))))
+        (from-above (x .preference) (y .preference) h k) (from-above (y .preference) (x .preference) k h)
+        ∙ with-higher (65535 - x .preference) (65535 - y .preference) (x .dp) (y .dp) (ltb (entryKey x) (entryKey y))
+    go false false = with-higher (x .preference) (y .preference) (x .dp) (y .dp) (ltb (entryKey x) (entryKey y))

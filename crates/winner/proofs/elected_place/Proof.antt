@@ -1,0 +1,35 @@
+-- `elected_place` meets its contract. Assumes nothing.
+use Prim.Native.Nat.{_<_, _^_}
+use native.Mathlib.Nat.{lt-of-lt-of-le}
+use lib.Pow.{pow-mono}
+use borrow.Author.Needs.{needs}
+use denote.Ref.{now}
+use Rattle.layout.specs.Words.{tableIn}
+use Rattle.winner.proofs.Laws.{remainder-there, elected-nth, elected-best}
+use Rattle.winner.proofs.elected_place.Statement.{statement}
+use Rattle.winner.proofs.elected_place.Tie as tie
+
+-- a set of places in use fits
+fits : (s : tie.Start) → s .args .set < 2 ^ 64
+fits s = lt-of-lt-of-le (s .pre .2) (pow-mono (s .pre .0 .sound .short))
+
+rem-nth : tie.Need-rem-nth
+rem-nth c =
+    let s = c .before .before .before in
+    let h = s .pre .0 .sound in
+    remainder-there (tableIn (now (s .args .t)) .entries) (h .short) (h .rising) (s .args .set) (s .args .algorithm) (s .args .tag) (s .args .digest) (s .pre .2) (fits s) (s .pre .1) _ (c .count .ensures .0)
+
+returns : tie.Need-returns
+returns c =
+    let s = c .before .before .before .before in
+    let h = s .pre .0 .sound in
+    elected-nth (tableIn (now (s .args .t)) .entries) (h .short) (h .rising) (s .args .set) (s .args .algorithm) (s .args .tag) (s .args .digest) (s .pre .2) (fits s) (s .pre .1) _ _ (c .before .before .if1 .taken) (c .before .count .ensures .0) (c .nth .ensures)
+
+returns-2 : tie.Need-returns-2
+returns-2 c =
+    let s = c .before .before .before in
+    let h = s .pre .0 .sound in
+    elected-best (tableIn (now (s .args .t)) .entries) (h .short) (h .rising) (s .args .set) (s .args .algorithm) (s .args .tag) (s .args .digest) (s .pre .2) (fits s) (s .pre .1) _ (c .before .if1 .left) (c .best .ensures)
+
+pub elected-place-spec : {M : Type 1} → statement M
+elected-place-spec = tie.close (tie.spec (λ c κs. search needs) rem-nth (λ c κs. search needs) returns (λ c κs. search needs) returns-2)

@@ -1,0 +1,2 @@
+pub mod Winner
+pub mod Steps

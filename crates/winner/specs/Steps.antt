@@ -1,0 +1,12 @@
+-- What the steps of the winner promise to it.
+--   scoreOf a d e   == the number by which a candidate is preferred under the algorithm a (1 to 3) and the digest d, the greater the better
+use Prim.Native.Nat.{ℕ, _+_, _-_, _*_}
+use mathlib.Core.Bool.{cond}
+use lib.Dec.{eqb}
+use Rattle.layout.specs.Table.{Entry}
+use Rattle.layout.specs.Words.{bit}
+use Rattle.hrw.specs.Weight.{weightOf}
+
+unfoldable pub scoreOf : ℕ → ℕ → Entry → ℕ
+scoreOf a d e =
+    cond (eqb a 1) (weightOf (e .address) d) (cond (eqb a 3) (65535 - e .preference) (e .preference) * 2 + bit (e .dp))

@@ -1,0 +1,61 @@
+// The winner of a set of places of the table under each algorithm. The set is walked along its bits: its places are found by trailing zeros.
+ghost use mathlib.Core.Path.{_≡_};
+ghost use Prim.Native.Nat.{_<_, _^_};
+ghost use lib.ListN.{length, getD};
+ghost use Rattle.layout.specs.Table.{noEntry};
+ghost use Rattle.layout.specs.Words.{tableIn, Valid};
+ghost use Rattle.places.specs.Places.{places};
+ghost use Rattle.choice.specs.Choice.{bestOf};
+ghost use Rattle.winner.specs.Winner.{better, elected, entriesAt};
+ghost use Rattle.winner.specs.Steps.{scoreOf};
+
+// The greatest preference, twice: what a preference and its DP bit are counted down from under algorithm 3.
+const TWICE_GREATEST: u32 = 131070;
+
+// The number by which a candidate is preferred under algorithm 1, 2 or 3, the greater the better: its weight, or its preference (under 3 counted from
+// above) with the DP bit behind it.
+fn score(t: &[u32], at: usize, algorithm: u8, digest: u32) -> u32
+    requires { ⌜ Valid (now t) × (at < length (tableIn (now t) .entries)) ⌝ }
+    ensures { λ r. ⌜ r ≡ scoreOf algorithm digest (getD (tableIn (now (t .entry)) .entries) at noEntry) ⌝ }
+{
+    if algorithm == 1 {
+        return hrw::weight(layout::address_at(t, at), digest);
+    }
+    let standing = layout::standing_at(t, at);
+    if algorithm == 3 {
+        return TWICE_GREATEST + standing % 2 * 2 - standing;
+    }
+    standing
+}
+
+// Of a set of places in use, which is not empty, the one whose entry is the best under algorithm 1, 2 or 3.
+pub fn best(t: &[u32], set: u64, algorithm: u8, digest: u32) -> usize
+    requires { ⌜ Valid (now t) × (set ≡ 0 → ⊥) × (set < 2 ^ length (tableIn (now t) .entries)) ⌝ }
+    ensures { λ r. ⌜ (r < length (tableIn (now (t .entry)) .entries)) × (getD (tableIn (now (t .entry)) .entries) r noEntry ≡ bestOf (better algorithm digest) noEntry (entriesAt (tableIn (now (t .entry)) .entries) (places set))) ⌝ }
+{
+    let mut at = places::first(set);
+    let mut top = score(t, at, algorithm, digest);
+    let mut left = places::rest(set);
+    while left != 0 {
+        let next = places::first(left);
+        let s = score(t, next, algorithm, digest);
+        if top < s {
+            at = next;
+            top = s;
+        }
+        left = places::rest(left);
+    }
+    at
+}
+
+// Of a set of places in use, which is not empty, the one that is elected for a tag: under algorithm 0 the one at tag mod N, else the best.
+pub fn elected_place(t: &[u32], set: u64, algorithm: u8, tag: u32, digest: u32) -> usize
+    requires { ⌜ Valid (now t) × (set ≡ 0 → ⊥) × (set < 2 ^ length (tableIn (now t) .entries)) ⌝ }
+    ensures { λ r. ⌜ (r < length (tableIn (now (t .entry)) .entries)) × (getD (tableIn (now (t .entry)) .entries) r noEntry ≡ elected algorithm tag digest (entriesAt (tableIn (now (t .entry)) .entries) (places set))) ⌝ }
+{
+    if algorithm == 0 {
+        let n = places::count(set);
+        return places::nth(set, tag % n);
+    }
+    best(t, set, algorithm, digest)
+}
