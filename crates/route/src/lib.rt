@@ -9,6 +9,7 @@ ghost use Rattle.route.specs.Route.{
   checkedAddress,
   routeNumber,
   routePlace,
+  routeValue,
   routeChecked,
   readAs,
   readRoute,
@@ -53,11 +54,13 @@ pub fn place(c: Checked) -> usize
 
 // Checks a route, in document 01's order: fewer than 21 octets, 1; type not 4, 2; address length not 32, 3; not 25 octets or length octet
 // not 23, 1; identifier reserved, 4; address zero, 6. Otherwise the answer is the originator's address. With a refusal comes the place of what is
-// wrong: for 1 the number of octets where that is wrong, else the length octet; 0 for 2, 20 for 3, 10 for 4, 21 for 6.
+// wrong: for 1 the number of octets where that is wrong, else the length octet; 0 for 2, 20 for 3, 10 for 4, 21 for 6. By the three definitions of
+// what each case says, the answer's number, place and address are document 01's: with a refusal the address is zero.
 pub fn check(s: &[u8]) -> Checked
     ensures { λ r. ⌜ r ≡ routeChecked (now (s .entry)) ⌝ }
     ensures numbered { λ r. ⌜ checkedNumber r ≡ routeNumber (now (s .entry)) ⌝ }
     ensures placed { λ r. ⌜ checkedPlace r ≡ routePlace (now (s .entry)) ⌝ }
+    ensures valued { λ r. ⌜ checkedAddress r ≡ routeValue (now (s .entry)) ⌝ }
     ensures fault { λ r. ⌜ Fault (now (s .entry)) (checkedNumber r) (checkedPlace r) ⌝ }
 {
     if s.len() < 21 {
