@@ -47,7 +47,7 @@ pub fn start() -> Begun
     ensures kept { λ r. ⌜ Valid (r .table) ⌝ }
 {
     let zeros = [0u8; 10];
-    let made = table::fresh(&zeros);
+    let made = segment::fresh(&zeros);
     let words = made.table;
     Begun {
         phase: Phase::Start,
@@ -68,7 +68,7 @@ pub fn finish(phase: Phase, rest: &[u8], out: &mut [u8]) -> usize
     if rest.len() == 0 {
         return 0;
     }
-    lines::put_run(out, 0, b"x 16\n")
+    records::put_bad(out, 0)
 }
 
 // One record at place `used` of the input, or none, where the octets from there on hold no whole record.
@@ -89,7 +89,7 @@ fn take_record(
         Frame::Nothing => Progress { phase, used, wrote },
         Frame::Cut => Progress { phase, used, wrote },
         Frame::Bad => {
-            let end = lines::put_run(out, wrote, b"x 16\n");
+            let end = records::put_bad(out, wrote);
             Progress {
                 phase: Phase::Ended,
                 used: input.len(),
