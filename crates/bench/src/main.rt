@@ -1,6 +1,8 @@
-// The bench program (document 01, "The bench program"): records on standard input, answer lines on standard output. All that matters is in `blocks` and `records`;
-// here blocks of octets are read and written. Input of any length is taken in constant memory: what the records of a block leave over is moved to its
-// front, and the next octets are read behind it.
+// The bench program (document 01, "The bench program"): records on standard input, answer lines on standard output. All that matters is in `blocks` and
+// `records`; here octets are read, handed to `blocks::take_block`, and what it made is written. Input of any length is taken in constant memory: the
+// next octets are read behind those that are left of the last ones. A read or a write that fails is told on standard error.
+use blocks::Next;
+use libc::STDERR_FILENO;
 use libc::STDIN_FILENO;
 use libc::STDOUT_FILENO;
 use records::Phase;
@@ -15,68 +17,79 @@ struct Work {
     going: bool,
 }
 
+// Writes answer lines, and answers whether all of them were written.
+fn write_lines(made: &[u8]) -> bool {
+    if io::write_all(STDOUT_FILENO, made) {
+        return true;
+    }
+    io::write_all(STDERR_FILENO, b"bench: writing to standard output failed\n");
+    false
+}
+
 // The input has ended, and the octets that are left are no whole record.
-fn end(phase: Phase, block: &[u8], out: &mut [u8]) {
-    let wrote = blocks::finish(phase, block, out);
-    io::write_all(STDOUT_FILENO, &out[..wrote]);
+fn end(phase: Phase, rest: &[u8], out: &mut [u8]) {
+    let wrote = blocks::finish(phase, rest, out);
+    write_lines(&out[..wrote]);
 }
 
 // Reads more octets behind those that fill the block. A read that fails counts as the end of the input.
 fn read_more(phase: Phase, block: &mut [u8], filled: usize, out: &mut [u8]) -> Work
     requires { ⌜ filled ≤ length (now block) ⌝ }
-    ensures { λ r. ⌜ r .filled ≤ length (now (block .exit)) ⌝ }
 {
     let got = libc::read(STDIN_FILENO, &mut block[filled..]);
+    if got < 0 {
+        io::write_all(
+            STDERR_FILENO,
+            b"bench: reading from standard input failed\n",
+        );
+    }
     let more = io::count(got, &block[filled..]);
     if more == 0 {
         end(phase, &block[..filled], out);
         return Work {
-            phase: phase,
-            filled: filled,
+            phase,
+            filled,
             going: false,
         };
     }
     let sum = filled + more;
     Work {
-        phase: phase,
+        phase,
         filled: sum,
         going: true,
     }
 }
 
-// One turn: the records that are whole are carried out, and their lines are written at once; where there was none, more is read.
+// One turn: the block is taken, what it makes is written at once, and more is read where that is next.
 fn turn(t: &mut [u32], phase: Phase, block: &mut [u8], filled: usize, out: &mut [u8]) -> Work
-    requires { ⌜ (filled ≤ length (now block)) × Valid (now t) ⌝ }
-    ensures { λ r. ⌜ (r .filled ≤ length (now (block .exit))) × Valid (now (t .exit)) ⌝ }
+    requires { ⌜ Valid (now t) ⌝ }
+    ensures { λ _. ⌜ Valid (now (t .exit)) ⌝ }
 {
-    let p = blocks::process(t, phase, &block[..filled], out);
-    let next = p.phase;
-    let used = p.used;
-    let wrote = p.wrote;
-    let is_written = io::write_all(STDOUT_FILENO, &out[..wrote]);
-    let left = blocks::keep(block, used, filled);
-    if !is_written {
+    let taken = blocks::take_block(t, phase, block, filled, out);
+    let last = taken.phase;
+    let left = taken.left;
+    let wrote = taken.wrote;
+    let next = taken.next;
+    if !write_lines(&out[..wrote]) {
         return Work {
-            phase: next,
+            phase: last,
             filled: left,
             going: false,
         };
     }
-    if blocks::ended(next) {
-        return Work {
-            phase: next,
+    match next {
+        Next::Done => Work {
+            phase: last,
             filled: left,
             going: false,
-        };
-    }
-    if used > 0 {
-        return Work {
-            phase: next,
+        },
+        Next::Again => Work {
+            phase: last,
             filled: left,
             going: true,
-        };
+        },
+        Next::Read => read_more(last, block, left, out),
     }
-    read_more(next, block, left, out)
 }
 
 // A proved loop has to end, and nothing says that the input does: the turns are counted down from a number that no run uses up.

@@ -3,12 +3,12 @@ use Prim.Native.Nat.{ℕ, _+_, _-_, _≤_, _<_, min}
 use native.Mathlib.Nat.{le-refl, add-comm}
 use native.Mathlib.Omega.{arith}
 use mathlib.Core.Path.{_≡_, refl, ap, _∙_, sym, subst}
-use mathlib.Core.Bool.{Bool, true, false, _||_, false≢true}
+use mathlib.Core.Bool.{Bool, true, false, cond, _||_, false≢true}
 use mathlib.Core.List.{List, [], _++_, append-assoc, append-nil}
 use lib.ListN.{length, take, drop, getD, set, length-append, length-drop, length-take, drop-of-length-le}
-use lib.Seq.{take-at, drop-at, drop-drop, length-take-le, getD-append-add, getD-drop, getD-take}
-use lib.Dec.{ltb}
-use borrow.Author.Tests.{lt-ltb}
+use lib.Seq.{take-at, take-all, drop-at, drop-drop, length-take-le, getD-append-add, getD-drop, getD-take}
+use lib.Dec.{ltb, leb}
+use borrow.Author.Tests.{lt-ltb, le-ltb, ltb-true, ltb-false, leb-true, leb-false}
 use Rattle.octets.specs.Octets.{stored}
 use Rattle.octets.proofs.Laws.{stored-fits, stored-front, length-stored, front-next, front-all}
 use Rattle.frames.specs.Frames.{Front, nothing, bad, cut, whole, front}
@@ -19,7 +19,10 @@ use Rattle.records.specs.declared.Step.{Step}
 use Rattle.blocks.specs.declared.Progress.{Progress}
 use Rattle.records.specs.Records.{Bench, stateIn, badLine, turn, isEnd, hasEnded, runFrom, endOf}
 use Rattle.records.specs.Steps.{Written, Stepped}
-use Rattle.blocks.specs.Blocks.{isPart, stopped, Advanced, Ran, Stopped, kept}
+use Rattle.blocks.specs.Blocks.{isPart, stopped, Advanced, Ran, Stopped, kept, lastOf, nextIn, Why, ended, full, part, BlockTaken}
+use Rattle.blocks.specs.declared.Taken.{Taken}
+use Rattle.blocks.specs.declared.Next.{Next}
+use Rattle.blocks.specs.declared.Next.the-variants.{Done, Again, Read}
 use Rattle.blocks.proofs.Runs.{run-ended, run-found, run-spoilt, end-ended, run-end-nothing, run-end-cut}
 use Rattle.records.proofs.Laws.{written-none}
 
@@ -168,10 +171,6 @@ kept-all s u n i e =
 pub stored-none : {s k : List ℕ} → k ≡ [] → stored s 0 k ≡ s
 stored-none {s} {k} e = ap (stored s 0) e ∙ stored-front s [] (omega arith)
 
--- what was kept fits into the block
-pub kept-within : (s : List ℕ) (u n : ℕ) {r : ℕ} {e : List ℕ} → r ≡ length (kept s u n) → e ≡ stored s 0 (kept s u n) → r ≤ length e
-kept-within s u n {r} {e} q b = omega (arith, q, length-kept s u n, ap length b, length-stored s 0 (kept s u n))
-
 -- ---- where the input ends
 
 -- what may still become a record prints what `endOf` says if nothing follows
@@ -182,11 +181,82 @@ end-part b s bad h e p = absurd (false≢true p)
 end-part b s cut h e p = run-end-cut b s h e
 end-part b s (whole k l r) h e p = absurd (false≢true p)
 
--- where no record can be taken although there is room, the run prints what `endOf` says
-pub end-stopped : (b : Bench) (s : List ℕ) → stopped b s 40 ≡ true → runFrom b s ≡ endOf (b .phase) s
-unfolding stopped
-end-stopped b s = by-end (hasEnded b) refl
+pub end-of-part : (b : Bench) (s : List ℕ) → isPart (front s) ≡ true → runFrom b s ≡ endOf (b .phase) s
+end-of-part b s p = by-end (hasEnded b) refl
   where
-    by-end : (t : Bool) → hasEnded b ≡ t → (t || (ltb 40 40 || isPart (front s))) ≡ true → runFrom b s ≡ endOf (b .phase) s
-    by-end true h p = run-ended b s h ∙ sym (end-ended (b .phase) s h)
-    by-end false h p = end-part b s (front s) h refl p
+    by-end : (t : Bool) → hasEnded b ≡ t → runFrom b s ≡ endOf (b .phase) s
+    by-end true h = run-ended b s h ∙ sym (end-ended (b .phase) s h)
+    by-end false h = end-part b s (front s) h refl p
+
+-- ---- a whole block
+
+take-least : (n : ℕ) (s : List ℕ) → take (min n (length s)) s ≡ take n s
+take-least n s = go (leb n (length s)) refl
+  where
+    go : (t : Bool) → leb n (length s) ≡ t → take (min n (length s)) s ≡ take n s
+    go true h =
+        let l = leb-true n (length s) h in
+        let e : min n (length s) ≡ n = omega arith in
+        ap (λ (m : ℕ). take m s) e
+    go false h = let l = leb-false n (length s) h in take-all (min n (length s)) s (omega arith) ∙ sym (take-all n s (omega arith))
+
+-- what is kept is the last of the octets handed in
+kept-last : (s : List ℕ) (i n : ℕ) → i ≤ length (take n s) → kept s i n ≡ lastOf (length (kept s i n)) (take n s)
+unfolding lastOf
+kept-last s i n h =
+    let l = length-drop i (take n s) in
+    let e : i ≡ length (take n s) - length (kept s i n) = omega arith in
+    ap (λ (m : ℕ). drop m (take n s)) e
+
+-- what is next, by the tests
+module _ (h : Phase) (n : ℕ) where
+  pub next-done : isEnd h ≡ true → Done ≡ nextIn h n
+  unfolding nextIn
+  next-done e = rw e
+
+  pub next-again : isEnd h ≡ false → n < 40 → Again ≡ nextIn h n
+  unfolding nextIn
+  next-again e l = rw (e, lt-ltb n 40 l)
+
+  pub next-read : isEnd h ≡ false → 40 ≤ n → Read ≡ nextIn h n
+  unfolding nextIn
+  next-read e l = rw (e, le-ltb n 40 l)
+
+-- why it stopped, by what is next
+why-next : (q : Bench) (s : List ℕ) (n : ℕ) → stopped q s n ≡ true → Why q s n (nextIn (q .phase) n)
+unfolding stopped nextIn
+why-next q s n = by-end (hasEnded q) refl
+  where
+    by-room : (t : Bool) → ltb n 40 ≡ t → hasEnded q ≡ false → (t || isPart (front s)) ≡ true → Why q s n (cond t Again Read)
+    by-room true h e p = full refl e (ltb-true n 40 h)
+    by-room false h e p = part refl e (ltb-false n 40 h) p
+
+    by-end : (t : Bool) → hasEnded q ≡ t → (t || (ltb n 40 || isPart (front s))) ≡ true → Why q s n (cond t Done (cond (ltb n 40) Again Read))
+    by-end true h p = ended refl h
+    by-end false h p = by-room (ltb n 40) refl h p
+
+pub block-taken : {b : Bench} {s d : List ℕ} {p : Progress} {q : Bench} {e : List ℕ} (n m : ℕ) {k : ℕ} {u : List ℕ} {x : Next} → m ≡ min n (length s)
+    → Ran b (take m s) d p q e → Stopped (take m s) d p q ≡ true → k ≡ length (kept s (p .used) m) → u ≡ stored s 0 (kept s (p .used) m)
+    → x ≡ nextIn (q .phase) (length e - p .wrote)
+    → BlockTaken b s n d (record { phase = q .phase; left = k; wrote = p .wrote; next = x }) q u e
+block-taken {b} {s} {d} {p} {q} {e} n m {k} {u} {x} h ran stop hk hu hx =
+    let i = p .used in
+    let t : take m s ≡ take n s = ap (λ (j : ℕ). take j s) h ∙ take-least n s in
+    let l = length-kept s i m in
+    let room : length e - p .wrote ≡ length d - p .wrote = sym (length-drop (p .wrote) e) ∙ ap length (ran .others) ∙ length-drop (p .wrote) d in
+    let front : take k u ≡ kept s i m =
+    ap (take k) (hu ∙ stored-front s (kept s i m) (omega arith)) ∙ take-at (kept s i m) (drop (length (kept s i m)) s) k (sym hk) in
+    record {
+      run = λ r. rw (← t, front) (ran .run r);
+      wrote = ran .wrote;
+      others = ran .others;
+      left = rw (← t) (omega (arith, length-drop i (take m s)));
+      block = hu ∙ rw (← t, hk) (ap (stored s 0) (kept-last s i m (ran .used)));
+      why = rw (front, hx, room) (why-next q (kept s i m) (length d - p .wrote) stop);
+    }
+
+-- what is left fits into the block
+pub left-within : {b : Bench} {s : List ℕ} {n : ℕ} {d : List ℕ} {p : Taken} {q : Bench} {u e : List ℕ} → BlockTaken b s n d p q u e → p .left ≤ length u
+left-within {s = s} {n} {p = p} {u = u} t =
+    let l : length u ≡ length s = ap length (t .block) ∙ length-stored s 0 (lastOf (p .left) (take n s)) in
+    omega (arith, t .left, length-take n s)

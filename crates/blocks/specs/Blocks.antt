@@ -11,16 +11,27 @@
 --                              state q at the place that p says
 --   Stopped s d p q         == whether the run had to stop in the state q at the place that p says, with the input s and a buffer of the length of d
 --   kept s i n              == the octets from place i up to place n of s
-use Prim.Native.Nat.{ℕ, _-_, _≤_}
+--   lastOf k s              == the last k octets of s
+--   nextIn h n              == what is to be done next, in the phase h with room for n octets left
+--   Why q s n x             == why no more is taken in the state q, with the octets s left and room for n octets, where x is to be done next
+--   BlockTaken b s n d p q u e
+--                           == from the state b the first n octets of a block that held s were taken, as far as that could be, into a buffer that held d:
+--                              p is the answer, q the state after it, u what the block then holds and e what the buffer then holds
+use Prim.Native.Nat.{ℕ, _-_, _≤_, _<_}
 use mathlib.Core.Path.{_≡_}
-use mathlib.Core.Bool.{Bool, true, false, _||_}
+use mathlib.Core.Bool.{Bool, true, false, cond, _||_}
 use mathlib.Core.List.{List, _++_}
 use lib.ListN.{length, take, drop}
 use lib.Dec.{ltb}
+use Rattle.octets.specs.Octets.{stored}
 use Rattle.frames.specs.Frames.{Front, nothing, bad, cut, whole, front}
-use Rattle.records.specs.Records.{Bench, hasEnded, runFrom}
+use Rattle.records.specs.declared.Phase.{Phase}
+use Rattle.records.specs.Records.{Bench, isEnd, hasEnded, runFrom}
 use Rattle.records.specs.Steps.{Written}
 use Rattle.blocks.specs.declared.Progress.{Progress}
+use Rattle.blocks.specs.declared.Next.{Next}
+use Rattle.blocks.specs.declared.Next.the-variants.{Done, Again, Read}
+use Rattle.blocks.specs.declared.Taken.{Taken}
 
 unfoldable pub isPart : Front → Bool
 isPart nothing = true
@@ -50,3 +61,28 @@ Stopped s d p q = stopped q (drop (p .used) s) (length d - p .wrote)
 
 abbrev pub kept : List ℕ → ℕ → ℕ → List ℕ
 kept s i n = drop i (take n s)
+
+-- A BLOCK
+unfoldable pub lastOf : ℕ → List ℕ → List ℕ
+lastOf k s = drop (length s - k) s
+
+unfoldable pub nextIn : Phase → ℕ → Next
+nextIn h n = cond (isEnd h) Done (cond (ltb n 40) Again Read)
+
+-- no line is longer than 40 octets; a whole record is not left over where there was room for its line
+pub data Why (q : Bench) (s : List ℕ) (n : ℕ) (x : Next) : Type 0 where
+  ended : x ≡ Done → hasEnded q ≡ true → Why q s n x
+  full : x ≡ Again → hasEnded q ≡ false → n < 40 → Why q s n x
+  part : x ≡ Read → hasEnded q ≡ false → 40 ≤ n → isPart (front s) ≡ true → Why q s n x
+
+pub record BlockTaken (b : Bench) (s : List ℕ) (n : ℕ) (d : List ℕ) (p : Taken) (q : Bench) (u e : List ℕ) : Type 0 where
+  -- whatever follows the octets that were handed in, the run is what was made of them, and then the run from here on what is left and what follows
+  pub run : (r : List ℕ) → runFrom b (take n s ++ r) ≡ take (p .wrote) e ++ runFrom q (take (p .left) u ++ r)
+  -- the output stands at the front of the buffer, and its other octets are as they were
+  pub wrote : p .wrote ≤ length d
+  pub others : drop (p .wrote) e ≡ drop (p .wrote) d
+  -- the last of the octets that were handed in stand at the front of the block, and its other octets are as they were
+  pub left : p .left ≤ length (take n s)
+  pub block : u ≡ stored s 0 (lastOf (p .left) (take n s))
+  -- why no more was taken
+  pub why : Why q (take (p .left) u) (length d - p .wrote) (p .next)

@@ -1,20 +1,21 @@
 // Blocks of input taken record by record (document 01, "The bench program"): what stands at a place of the block is taken by `records`, as long as the
-// records are whole and their lines find room. Reading and writing the blocks is the program's.
+// records are whole and their lines find room, and what is left over is kept at the block's front. Reading and writing is the program's.
 use frames::Frame;
 use records::LINE_ROOM;
 use records::Phase;
 use table::WORDS;
 ghost use mathlib.Core.Path.{_≡_};
 ghost use mathlib.Core.Bool.{true, false};
-ghost use Prim.Native.Nat.{ℕ, _+_, _≤_, min};
+ghost use Prim.Native.Nat.{ℕ, _+_, _-_, _≤_, min};
 ghost use mathlib.Core.List.{List};
 ghost use lib.ListN.{length};
 ghost use Rattle.octets.specs.Octets.{stored};
 ghost use Rattle.table.specs.Table.{Table};
 ghost use Rattle.table.specs.Words.{Valid};
+ghost use Rattle.frames.specs.Frames.{front};
 ghost use Rattle.lines.specs.Lines.{Put};
 ghost use Rattle.records.specs.Records.{isEnd, stateIn, first, endOf, runFrom, runOf};
-ghost use Rattle.blocks.specs.Blocks.{Advanced, Ran, stopped, Stopped, kept};
+ghost use Rattle.blocks.specs.Blocks.{isPart, Advanced, Ran, Stopped, kept, nextIn, BlockTaken};
 
 // The state in which a run starts: the phase, and the words of the table that the run is then lent.
 pub struct Begun {
@@ -22,15 +23,31 @@ pub struct Begun {
     pub table: [u32; WORDS],
 }
 
-// How far a block of input was taken: the phase, how many octets of input are used, and how many octets of output are made.
-pub struct Progress {
+// What is to be done next, once the output is written: nothing, as the run has ended; the block is to be taken again, as a line may not have found room;
+// more input is to be read, as what is kept is no whole record.
+pub enum Next {
+    Done,
+    Again,
+    Read,
+}
+
+// What taking a block answers: the phase, how many octets are kept at the front of the block, how many octets of output are made, and what is next.
+pub struct Taken {
     pub phase: Phase,
-    pub used: usize,
+    pub left: usize,
     pub wrote: usize,
+    pub next: Next,
+}
+
+// How far the octets of a block were taken: the phase, how many octets of input are used, and how many octets of output are made.
+struct Progress {
+    phase: Phase,
+    used: usize,
+    wrote: usize,
 }
 
 // Whether a run has ended: nothing more is looked at.
-pub fn ended(phase: Phase) -> bool
+fn ended(phase: Phase) -> bool
     ensures { λ r. ⌜ r ≡ isEnd phase ⌝ }
 {
     match phase {
@@ -47,7 +64,7 @@ pub fn start() -> Begun
     ensures kept { λ r. ⌜ Valid (r .table) ⌝ }
 {
     let zeros = [0u8; 10];
-    let made = table::fresh(&zeros);
+    let made = segment::fresh(&zeros);
     let words = made.table;
     Begun {
         phase: Phase::Start,
@@ -56,11 +73,11 @@ pub fn start() -> Begun
 }
 
 // Puts what is printed where the input ends with the octets `rest`, which are no whole record: `x 16` if there are any and the run has not
-// ended. Answers how many octets that is; where they do not fit, the buffer stays as it is and the answer is 0. Where `process` had to stop with room
-// left, this is what the run on those octets prints, whatever its table.
+// ended. Answers how many octets that is; where they do not fit, the buffer stays as it is and the answer is 0. It is what the run on
+// those octets prints, whatever its table.
 pub fn finish(phase: Phase, rest: &[u8], out: &mut [u8]) -> usize
     ensures answer { λ r. ⌜ Put (now (out .entry)) 0 (endOf phase (now (rest .entry))) r (now (out .exit)) ⌝ }
-    ensures run { λ _. ⌜ ((t : Table) → stopped (record { phase = phase; table = t }) (now (rest .entry)) 40 ≡ true → runFrom (record { phase = phase; table = t }) (now (rest .entry)) ≡ endOf phase (now (rest .entry))) ⌝ }
+    ensures run { λ _. ⌜ ((t : Table) → isPart (front (now (rest .entry))) ≡ true → runFrom (record { phase = phase; table = t }) (now (rest .entry)) ≡ endOf phase (now (rest .entry))) ⌝ }
 {
     if ended(phase) {
         return 0;
@@ -68,7 +85,7 @@ pub fn finish(phase: Phase, rest: &[u8], out: &mut [u8]) -> usize
     if rest.len() == 0 {
         return 0;
     }
-    lines::put_run(out, 0, b"x 16\n")
+    records::put_bad(out, 0)
 }
 
 // One record at place `used` of the input, or none, where the octets from there on hold no whole record.
@@ -89,7 +106,7 @@ fn take_record(
         Frame::Nothing => Progress { phase, used, wrote },
         Frame::Cut => Progress { phase, used, wrote },
         Frame::Bad => {
-            let end = lines::put_run(out, wrote, b"x 16\n");
+            let end = records::put_bad(out, wrote);
             Progress {
                 phase: Phase::Ended,
                 used: input.len(),
@@ -136,7 +153,7 @@ fn advance(
 // Takes the records of a block of input, as far as they are whole and their lines find room: the first `used` octets of the input are done with, and what
 // they print stands in the first `wrote` octets of the buffer; the others stay as they are. Whatever follows the block, the run goes on from the
 // phase in the answer and the table, with the octets of the block that were not used at its front.
-pub fn process(t: &mut [u32], phase: Phase, input: &[u8], out: &mut [u8]) -> Progress
+fn process(t: &mut [u32], phase: Phase, input: &[u8], out: &mut [u8]) -> Progress
     requires { ⌜ Valid (now t) ⌝ }
     ensures run { λ r. ⌜ Ran (stateIn phase (now (t .entry))) (now (input .entry)) (now (out .entry)) r (stateIn (r .phase) (now (t .exit))) (now (out .exit)) ⌝ }
     ensures stopped { λ r. ⌜ Stopped (now (input .entry)) (now (out .entry)) r (stateIn (r .phase) (now (t .exit))) ≡ true ⌝ }
@@ -171,7 +188,7 @@ fn least(a: usize, b: usize) -> usize
 
 // Moves the octets of a block that were not used to its front: those from place `used` up to place `filled`, where a place past the end counts as
 // the end. The other places stay as they are. Answers how many octets were moved.
-pub fn keep(block: &mut [u8], used: usize, filled: usize) -> usize
+fn keep(block: &mut [u8], used: usize, filled: usize) -> usize
     ensures count { λ r. ⌜ r ≡ length (kept (now (block .entry)) used filled) ⌝ }
     ensures moved { λ _. ⌜ now (block .exit) ≡ stored (now (block .entry)) 0 (kept (now (block .entry)) used filled) ⌝ }
 {
@@ -186,4 +203,48 @@ pub fn keep(block: &mut [u8], used: usize, filled: usize) -> usize
         i += 1;
     }
     n
+}
+
+// What is to be done next, in a phase and with room for so many octets left.
+fn next_in(phase: Phase, spare: usize) -> Next
+    ensures { λ r. ⌜ r ≡ nextIn phase spare ⌝ }
+{
+    if ended(phase) {
+        return Next::Done;
+    }
+    if spare < LINE_ROOM {
+        return Next::Again;
+    }
+    Next::Read
+}
+
+// Takes the first `filled` octets of a block record by record, as far as that can be; where the block is shorter, all of it. Whatever follows these octets,
+// the run on them is what the first `wrote` octets of the output buffer then hold, and then the run from the phase in the answer and the table, on the
+// first `left` octets that the block then holds and what follows. These are the last of the octets that were handed in. The other octets of both
+// buffers stay as they are. `next` says why no more was taken.
+pub fn take_block(
+    t: &mut [u32],
+    phase: Phase,
+    block: &mut [u8],
+    filled: usize,
+    out: &mut [u8],
+) -> Taken
+    requires { ⌜ Valid (now t) ⌝ }
+    ensures run { λ r. ⌜ BlockTaken (stateIn phase (now (t .entry))) (now (block .entry)) filled (now (out .entry)) r (stateIn (r .phase) (now (t .exit))) (now (block .exit)) (now (out .exit)) ⌝ }
+    ensures kept { λ _. ⌜ Valid (now (t .exit)) ⌝ }
+{
+    let n = least(filled, block.len());
+    let p = process(t, phase, &block[..n], out);
+    let last = p.phase;
+    let used = p.used;
+    let wrote = p.wrote;
+    let left = keep(block, used, n);
+    let spare = out.len() - wrote;
+    let next = next_in(last, spare);
+    Taken {
+        phase: last,
+        left,
+        wrote,
+        next,
+    }
 }

@@ -7,7 +7,9 @@ ghost use Prim.Native.Nat.{ℕ, _+_, _≤_, _/_};
 ghost use mathlib.Core.List.{List};
 ghost use lib.ListN.{length, take};
 ghost use Rattle.table.specs.Words.{tableIn, Valid};
+ghost use Rattle.lines.specs.Lines.{Put};
 ghost use Rattle.records.specs.Records.{
+  badLine,
   line,
   placeLine,
   hasPlace,
@@ -121,12 +123,20 @@ fn put_answer(out: &mut [u8], at: usize, r: Answer) -> usize
     put_elected(out, at, address, n)
 }
 
+// Puts the line of a bad record, `x 16`, from place `at` on and answers the place after it; where it does not fit, the buffer stays as it is and the
+// answer is `at`.
+pub fn put_bad(out: &mut [u8], at: usize) -> usize
+    ensures { λ r. ⌜ Put (now (out .entry)) at badLine r (now (out .exit)) ⌝ }
+{
+    lines::put_run(out, at, b"x 16\n")
+}
+
 // A bad record: its line is put, and the run ends. The table stays as it is, whatever its words are.
 fn refuse(out: &mut [u8], at: usize) -> Step
     requires { ⌜ at + 40 ≤ length (now out) ⌝ }
     ensures { λ r. ⌜ ((w : List ℕ) → Valid w → Stepped (now (out .entry)) at (refused (tableIn w)) r w (now (out .exit))) ⌝ }
 {
-    let end = lines::put_run(out, at, b"x 16\n");
+    let end = put_bad(out, at);
     Step {
         phase: Phase::Ended,
         at: end,
@@ -161,7 +171,7 @@ fn begin(t: &mut [u32], text: &[u8], out: &mut [u8], at: usize) -> Step
         };
     }
     let esi = read.esi;
-    let made = table::fresh(&esi);
+    let made = segment::fresh(&esi);
     let words = made.table;
     copy_words(t, &words);
     Step {
@@ -175,7 +185,7 @@ fn announce(t: &mut [u32], payload: &[u8], out: &mut [u8], at: usize) -> Step
     requires { ⌜ (at + 40 ≤ length (now out)) × (25 ≤ length (now payload)) × Valid (now t) ⌝ }
     ensures { λ r. ⌜ Stepped (now (out .entry)) at (announceTurn (tableIn (now (t .entry))) (now (payload .entry))) r (now (t .exit)) (now (out .exit)) ⌝ }
 {
-    let verdict = table::announce(t, &payload[..25], &payload[25..]);
+    let verdict = segment::announce(t, &payload[..25], &payload[25..]);
     let number = verdict.number;
     let place = verdict.place;
     let end = put_read(out, at, b'a', number, place);
@@ -191,7 +201,7 @@ fn withdraw(t: &mut [u32], payload: &[u8], out: &mut [u8], at: usize) -> Step
     ensures { λ r. ⌜ Stepped (now (out .entry)) at (withdrawTurn (tableIn (now (t .entry))) (now (payload .entry))) r (now (t .exit)) (now (out .exit)) ⌝ }
 {
     let address = octets::u32_of(payload[0], payload[1], payload[2], payload[3]);
-    let number = table::withdraw(t, address);
+    let number = segment::withdraw(t, address);
     let end = put_line(out, at, b'w', number);
     Step {
         phase: Phase::Running,
@@ -224,7 +234,7 @@ fn query(t: &[u32], payload: &[u8], out: &mut [u8], at: usize) -> Step
     let rest = &payload[4..];
     let ready = addresses_in(rest);
     let n = rest.len() / 4;
-    let answer = election::elect(t, tag, &ready[..n]);
+    let answer = segment::elect(t, tag, &ready[..n]);
     let end = put_answer(out, at, answer);
     Step {
         phase: Phase::Running,

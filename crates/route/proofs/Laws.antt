@@ -13,7 +13,7 @@ use Rattle.octets.proofs.Laws.{elements, take-elements, length-octets, number-o
 use Rattle.address.specs.Address.{isZero}
 use Rattle.esi.specs.Reserved.{reserved}
 use Rattle.esi.proofs.Laws.{length-not-reserved}
-use Rattle.route.specs.Route.{routeDistinguisher, routeEsi, routeAddress, routeNumber, placeOf, routePlace, Fault, none, total, lengthOctet, type, bits, identifier, zeroAddress, checkedNumber, checkedPlace, routeChecked, readAs, readRoute, routeOctets, writeRouteNumber, routeWritten}
+use Rattle.route.specs.Route.{routeDistinguisher, routeEsi, routeAddress, routeNumber, placeOf, routePlace, Fault, none, total, lengthOctet, type, bits, identifier, zeroAddress, checkedNumber, checkedPlace, checkedAddress, routeValue, routeChecked, readAs, readRoute, routeOctets, writeRouteNumber, routeWritten}
 use Rattle.route.specs.declared.RouteRead.{RouteRead}
 use Rattle.route.specs.declared.Checked.{Checked}
 use Rattle.route.specs.declared.Checked.the-variants.{Originator, Refused}
@@ -21,15 +21,21 @@ use Rattle.route.specs.declared.Checked.the-variants.{Originator, Refuse
 -- WHAT THE CHECK ANSWERS
 module _ (s : List ℕ) where
   abbrev pub Answers : Checked → Type 0
-  Answers c = (c ≡ routeChecked s) × ((checkedNumber c ≡ routeNumber s) × ((checkedPlace c ≡ routePlace s) × Fault s (checkedNumber c) (checkedPlace c)))
+  Answers c =
+      (c ≡ routeChecked s)
+      × ((checkedNumber c ≡ routeNumber s)
+      × ((checkedPlace c ≡ routePlace s)
+      × ((checkedAddress c ≡ routeValue s) × Fault s (checkedNumber c) (checkedPlace c))))
 
   refused : (n p : ℕ) → suc n ≡ routeNumber s → p ≡ placeOf (suc n) s → Fault s (suc n) p → Answers (Refused (suc n) p)
-  unfolding routeChecked
-  refused n p e q f = (rw (← e, q, ne-eqb (suc n) 0 (λ z. omega arith)), (e, (q ∙ ap (λ (m : ℕ). placeOf m s) e, f)))
+  unfolding routeChecked routeValue
+  refused n p e q f =
+      let no = ne-eqb (suc n) 0 (λ z. omega arith) in
+      (rw (← e, q, no), (e, (q ∙ ap (λ (m : ℕ). placeOf m s) e, (rw (← e, no), f))))
 
   accepted : (a : ℕ) → a ≡ routeAddress s → 0 ≡ routeNumber s → Answers (Originator a)
-  unfolding routeChecked placeOf
-  accepted a q e = (rw (← e, q), (e, (rw (← e), none refl refl)))
+  unfolding routeChecked routeValue placeOf
+  accepted a q e = (rw (← e, q), (e, (rw (← e), (rw (← e, q), none refl refl))))
 
   wrong-total : (length s ≡ 25 → ⊥) → 1 ≡ routeNumber s → Answers (Refused 1 (length s))
   unfolding placeOf
@@ -88,7 +94,7 @@ module _ (s : List ℕ) where
 -- what the place of every route tells
 module _ (s : List ℕ) where
   told-fault : (c : Checked) → Answers s c → Fault s (routeNumber s) (routePlace s)
-  told-fault c a = subst (λ (n : ℕ). Fault s n (routePlace s)) (a .1 .0) (subst (Fault s (checkedNumber c)) (a .1 .1 .0) (a .1 .1 .1))
+  told-fault c a = subst (λ (n : ℕ). Fault s n (routePlace s)) (a .1 .0) (subst (Fault s (checkedNumber c)) (a .1 .1 .0) (a .1 .1 .1 .1))
 
   by-tests : (short? type? bits? total? octet? reserved? zero? : Bool) → ltb (length s) 21 ≡ short? → eqb (getD s 0 0) 4 ≡ type? → eqb (getD s 20 0) 32 ≡ bits?
       → eqb (length s) 25 ≡ total? → eqb (getD s 1 0) 23 ≡ octet? → reserved (take 10 (drop 10 s)) ≡ reserved? → isZero (numberOf (elements 4 21 s)) ≡ zero?
@@ -183,7 +189,7 @@ module _ (s : List ℕ) where
   reads-refused k n p m q a t e f =
       let e' : m ≡ n = e ∙ ap checkedNumber t in
       let f' : q ≡ p = f ∙ ap checkedPlace t in
-      (rw (e', f') (read-refused n p (sym (a .0) ∙ t)), rw (e, f) (a .1 .1 .1))
+      (rw (e', f') (read-refused n p (sym (a .0) ∙ t)), rw (e, f) (a .1 .1 .1 .1))
 
   read-accepted : (a : ℕ) (d e : List ℕ) → routeChecked s ≡ Originator a
       → d ≡ stored (replicate 8 0) 0 (take 8 (drop 2 s)) → e ≡ stored (replicate 10 0) 0 (take 10 (drop 10 s))

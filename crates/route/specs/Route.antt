@@ -8,6 +8,7 @@
 --   checkedNumber c           == document 01's number for each case of the check's answer
 --   checkedPlace c            == the place for each case: 0 with an address
 --   checkedAddress c          == document 01's value for each case: the originator's address, or zero with a refusal
+--   routeValue s              == document 01's value for the route s: its address where it is accepted, else zero
 --   routeChecked s            == the check's answer
 --   readAs n p d e a          == the reader's answer with these fields
 --   readRoute s               == the reader's answer
@@ -80,6 +81,9 @@ checkedPlace (Refused n p) = p
 abbrev pub checkedAddress : Checked → ℕ
 checkedAddress (Originator a) = a
 checkedAddress (Refused n p) = 0
+
+unfoldable pub routeValue : List ℕ → ℕ
+routeValue s = cond (eqb (routeNumber s) 0) (routeAddress s) 0
 
 unfoldable pub routeChecked : List ℕ → Checked
 routeChecked s = cond (eqb (routeNumber s) 0) (Originator (routeAddress s)) (Refused (routeNumber s) (routePlace s))

@@ -9,12 +9,34 @@ ghost use Rattle.route.specs.Route.{
   checkedAddress,
   routeNumber,
   routePlace,
+  routeValue,
   routeChecked,
   readAs,
   readRoute,
   writeRouteNumber,
   routeWritten,
 };
+
+// How many octets a route has.
+const ROUTE_LENGTH: usize = 25;
+
+// Refusal numbers of document 01: a wrong length of the route, or in writing one of its distinguisher,
+const WRONG_LENGTH: u8 = 1;
+
+// another type than 4,
+const WRONG_TYPE: u8 = 2;
+
+// an address length other than 32 bits,
+const WRONG_BITS: u8 = 3;
+
+// an identifier that is reserved or not ten octets,
+const ESI_RESERVED: u8 = 4;
+
+// address zero,
+const ADDRESS_ZERO: u8 = 6;
+
+// and a buffer that is too short.
+const BUFFER_SHORT: u8 = 14;
 
 // The answer of the check: the originator's address, or a refusal number and the place that it speaks of.
 pub enum Checked {
@@ -53,34 +75,36 @@ pub fn place(c: Checked) -> usize
 
 // Checks a route, in document 01's order: fewer than 21 octets, 1; type not 4, 2; address length not 32, 3; not 25 octets or length octet
 // not 23, 1; identifier reserved, 4; address zero, 6. Otherwise the answer is the originator's address. With a refusal comes the place of what is
-// wrong: for 1 the number of octets where that is wrong, else the length octet; 0 for 2, 20 for 3, 10 for 4, 21 for 6.
+// wrong: for 1 the number of octets where that is wrong, else the length octet; 0 for 2, 20 for 3, 10 for 4, 21 for 6. By the three definitions of
+// what each case says, the answer's number, place and address are document 01's: with a refusal the address is zero.
 pub fn check(s: &[u8]) -> Checked
     ensures { λ r. ⌜ r ≡ routeChecked (now (s .entry)) ⌝ }
     ensures numbered { λ r. ⌜ checkedNumber r ≡ routeNumber (now (s .entry)) ⌝ }
     ensures placed { λ r. ⌜ checkedPlace r ≡ routePlace (now (s .entry)) ⌝ }
+    ensures valued { λ r. ⌜ checkedAddress r ≡ routeValue (now (s .entry)) ⌝ }
     ensures fault { λ r. ⌜ Fault (now (s .entry)) (checkedNumber r) (checkedPlace r) ⌝ }
 {
     if s.len() < 21 {
-        return Checked::Refused(1, s.len());
+        return Checked::Refused(WRONG_LENGTH, s.len());
     }
     if s[0] != 4 {
-        return Checked::Refused(2, 0);
+        return Checked::Refused(WRONG_TYPE, 0);
     }
     if s[20] != 32 {
-        return Checked::Refused(3, 20);
+        return Checked::Refused(WRONG_BITS, 20);
     }
-    if s.len() != 25 {
-        return Checked::Refused(1, s.len());
+    if s.len() != ROUTE_LENGTH {
+        return Checked::Refused(WRONG_LENGTH, s.len());
     }
     if s[1] != 23 {
-        return Checked::Refused(1, 1);
+        return Checked::Refused(WRONG_LENGTH, 1);
     }
     if esi::is_reserved(&s[10..20]) {
-        return Checked::Refused(4, 10);
+        return Checked::Refused(ESI_RESERVED, 10);
     }
     let a = octets::u32_of(s[21], s[22], s[23], s[24]);
     if address::is_zero(a) {
-        return Checked::Refused(6, 21);
+        return Checked::Refused(ADDRESS_ZERO, 21);
     }
     Checked::Originator(a)
 }
@@ -123,16 +147,16 @@ pub fn write(buf: &mut [u8], distinguisher: &[u8], esi: &[u8], address: Address)
     ensures reads { λ r. ⌜ (r ≡ 0 → readRoute (take 25 (now (buf .exit))) ≡ readAs 0 0 (now (distinguisher .entry)) (now (esi .entry)) address) ⌝ }
 {
     if distinguisher.len() != 8 {
-        return 1;
+        return WRONG_LENGTH;
     }
     if esi::is_reserved(esi) {
-        return 4;
+        return ESI_RESERVED;
     }
     if address::is_zero(address) {
-        return 6;
+        return ADDRESS_ZERO;
     }
-    if buf.len() < 25 {
-        return 14;
+    if buf.len() < ROUTE_LENGTH {
+        return BUFFER_SHORT;
     }
     let start = [4, 23];
     let bits = [32];

@@ -3,22 +3,25 @@
 use Prim.Native.Nat.{ℕ, zero, suc, _≤_}
 use mathlib.Core.Path.{_≡_, refl, ap, sym, _∙_, subst}
 use mathlib.Core.Bool.{Bool, true, false, cond}
-use mathlib.Core.List.{List, [], _∷_, map, List·Permᴰ, List·Permᴰ·trans, Permᴰ·symm, Permᴰ·map}
+use mathlib.Core.List.{List, [], _∷_, _++_, map, List·Permᴰ, List·Permᴰ·trans, Permᴰ·symm, Permᴰ·map}
 use mathlib.Core.Option.{Option, none}
 use lib.ListN.{length, replicate}
 use lib.Dec.{eqb}
 use Rattle.keyed.specs.Keyed.{Rising, insert, arranged}
 use Rattle.keyed.specs.Journal.{after, answers, heldAt, heard, lastHeld}
 use Rattle.keyed.proofs.Keyed.{map-insert}
-use Rattle.keyed.proofs.Order.{perm-length, perm-arranged, rising-arranged-all, rising-unique}
+use Rattle.keyed.proofs.Order.{Distinct, perm-length, perm-arranged, rising-arranged-all, rising-unique}
 use Rattle.keyed.proofs.Journal as journal
 use Rattle.table.specs.Table.{Entry, Table, keyOf, live, WellFormed, ownerOf, freshTable}
+use Rattle.table.specs.Words.{tableIn, Told}
 use Rattle.table.proofs.Calls.{fresh-kept}
+use Rattle.election.specs.declared.Answer.{Answer}
 use Rattle.election.specs.Election.{electOf}
+use Rattle.returning.specs.declared.Sent.{Sent}
 use Rattle.returning.specs.Returning.{returningOf}
 use Rattle.segment.specs.Calls.{Call, announce, withdraw, elect, returning, Reply, changed, elected, sent, numberIn, replyTo, leaves}
-use Rattle.segment.specs.Journal.{Announcement, originatorKey, again, entryFrom, entriesFrom, callNumber, callEffect, numberFor, step, journalReply, held}
-use Rattle.segment.specs.Demand3.{tableAfter, Demand3}
+use Rattle.segment.specs.Journal.{Announcement, originatorKey, again, entryFrom, entriesFrom, callNumber, callEffect, numberFor, step, journalReply, held, OnePage}
+use Rattle.segment.specs.Demand3.{tableAfter, Follows, Demand3}
 use Rattle.segment.proofs.Calls.{rules, state, live-state, announced-number, withdrawn-number, call-state, refused-leaves, call-kept}
 
 -- THE ENTRIES of what is held, in order
@@ -143,6 +146,10 @@ module _ (i : List ℕ) where
     again-state : after leaves (state i []) (map again order) ≡ after leaves (state i []) cs
     again-state = journal.same-state originatorKey (callNumber i) callEffect again 64 (rules i) (state i) leaves one cs order h
 
+one-page : (js : List Announcement) → Distinct originatorKey js → OnePage js
+one-page [] d = tt
+one-page (p ∷ js) d = (d .0, one-page js (d .1))
+
 calls-kept : (t : Table) (cs : List Call) → WellFormed t → WellFormed (after leaves t cs)
 unfolding after
 calls-kept t [] w = w
@@ -156,6 +163,7 @@ demand3 i cs = record {
   elections = λ tag ready. refl;
   returnings = λ a alg p d. refl;
   refusals = refused-leaves (tableAfter i cs);
+  pages = one-page (held i cs) (kept (ownerOf i) cs .distinct);
   last = last-held (ownerOf i) cs;
   sound = calls-kept (freshTable i .table) cs (fresh-kept i);
   accepted = again-accepted (ownerOf i) cs;
@@ -168,3 +176,31 @@ demand3 i cs = record {
       ap (λ (t : Table). replyTo t (elect tag ready)) (again-state (ownerOf i) cs order h) ∙ replied (ownerOf i) cs (elect tag ready);
   preference = λ a alg p d. replied (ownerOf i) cs (returning a alg p d);
 }
+
+-- ONE CALL MORE at the end of a list
+after-last : (t : Table) (cs : List Call) (c : Call) → after leaves t (cs ++ c ∷ []) ≡ leaves (after leaves t cs) c
+unfolding after
+after-last t [] c = refl
+after-last t (d ∷ cs) c = after-last (leaves t d) cs c
+
+answers-last : (t : Table) (cs : List Call) (c : Call)
+    → answers replyTo leaves t (cs ++ c ∷ []) ≡ answers replyTo leaves t cs ++ replyTo (after leaves t cs) c ∷ []
+unfolding after answers
+answers-last t [] c = refl
+answers-last t (d ∷ cs) c = ap (λ (l : List Reply). replyTo t d ∷ l) (answers-last (leaves t d) cs c)
+
+pub follows : (t : Table) (c : Call) {r : Reply} {u : Table} → replyTo t c ≡ r → leaves t c ≡ u → Follows t c r u
+follows t c p q i cs e =
+    (answers-last (freshTable i .table) cs c ∙ rw (← e, p), after-last (freshTable i .table) cs c ∙ rw (← e) q)
+
+pub starts : (i : List ℕ) (n p : ℕ) (b : List ℕ) → Told (freshTable i) n p b → tableIn b ≡ tableAfter i []
+unfolding after
+starts i n p b o = o .2
+
+pub elect-follows : (t : Table) (tag : ℕ) (ready : List ℕ) {r : Answer} → replyTo t (elect tag ready) ≡ elected r → Follows t (elect tag ready) (elected r) t
+unfolding leaves
+elect-follows t tag ready e = follows t (elect tag ready) e refl
+
+pub returning-follows : (t : Table) (a alg p : ℕ) (d : Bool) {r : Sent} → replyTo t (returning a alg p d) ≡ sent r → Follows t (returning a alg p d) (sent r) t
+unfolding leaves
+returning-follows t a alg p d e = follows t (returning a alg p d) e refl

@@ -1,11 +1,12 @@
 -- Demand 3 (document 01, "A whole night of calls"): one claim of an identifier handed in, reserved or not, and a whole list of calls, of any length.
 --   replies i cs      == what the calls cs answer, one after another from the table that the fresh call gives for i
 --   tableAfter i cs   == the table that they leave
+--   Follows t c r u   == wherever a list of calls leaves the table t, the list with the call c at its end has r for its last reply and leaves the table u
 --   Demand3 i cs      == the claim
 use Prim.Native.Nat.{ℕ}
 use mathlib.Core.Path.{_≡_}
 use mathlib.Core.Bool.{Bool}
-use mathlib.Core.List.{List, [], map, List·Permᴰ}
+use mathlib.Core.List.{List, [], _∷_, _++_, map, List·Permᴰ}
 use mathlib.Core.Option.{none}
 use lib.ListN.{length, replicate}
 use Rattle.keyed.specs.Keyed.{Rising}
@@ -14,7 +15,7 @@ use Rattle.table.specs.Table.{Entry, Table, keyOf, WellFormed, ownerOf, freshTa
 use Rattle.election.specs.Election.{electOf}
 use Rattle.returning.specs.Returning.{returningOf}
 use Rattle.segment.specs.Calls.{Call, elect, returning, Reply, changed, elected, sent, numberIn, replyTo, leaves}
-use Rattle.segment.specs.Journal.{Announcement, originatorKey, again, entryFrom, entriesFrom, callEffect, step, journalReply, held}
+use Rattle.segment.specs.Journal.{Announcement, originatorKey, again, entryFrom, entriesFrom, callEffect, step, journalReply, held, OnePage}
 
 abbrev pub replies : List ℕ → List Call → List Reply
 replies i cs = answers replyTo leaves (freshTable i .table) cs
@@ -22,13 +23,22 @@ replies i cs = answers replyTo leaves (freshTable i .table) cs
 abbrev pub tableAfter : List ℕ → List Call → Table
 tableAfter i cs = after leaves (freshTable i .table) cs
 
+-- with this promise of each call, what a program's calls answer and leave is, by induction, what their list does
+abbrev pub Follows : Table → Call → Reply → Table → Type 0
+Follows t c r u = (i : List ℕ) (cs : List Call) → t ≡ tableAfter i cs
+    → (replies i (cs ++ c ∷ []) ≡ replies i cs ++ r ∷ []) × (tableAfter i (cs ++ c ∷ []) ≡ u)
+
 pub record Demand3 (i : List ℕ) (cs : List Call) : Type 0 where
   -- call by call, for all four kinds of call, the reply is the journal's: so an announcement or a withdrawal is accepted exactly if the journal accepts it
   pub told : replies i cs ≡ answers (journalReply (ownerOf i)) (step (ownerOf i)) [] cs
-  -- elections, calls for a returning router and refused calls leave the table as they got it; lists that go on from here have the same said of them
+  -- elections, calls for a returning router and refused calls leave the table as they got it; lists that go on from here have the same said of them.
+  -- Of elections and calls for a returning router this holds by definition: what the code guarantees is that these calls get the table by a shared
+  -- reference (`&[u32]`), through which nothing is written
   pub elections : (tag : ℕ) (ready : List ℕ) → leaves (tableAfter i cs) (elect tag ready) ≡ tableAfter i cs
   pub returnings : (a alg p : ℕ) (d : Bool) → leaves (tableAfter i cs) (returning a alg p d) ≡ tableAfter i cs
   pub refusals : (c : Call) → (numberIn (replyTo (tableAfter i cs) c) ≡ 0 → ⊥) → leaves (tableAfter i cs) c ≡ tableAfter i cs
+  -- one page for each address: no two announcements that are held have the same originator
+  pub pages : OnePage (held i cs)
   -- an address is held exactly if its last accepted announcement or withdrawal, by the table's own replies, was an announcement: it holds that one
   pub last : (k : ℕ) → heldAt originatorKey k (held i cs) ≡ lastHeld originatorKey callEffect k none cs (map numberIn (replies i cs))
   -- the table at the end has what every call asks of a table

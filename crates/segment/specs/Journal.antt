@@ -11,13 +11,15 @@
 --   numberFor i js c, step i js c  == the number that the call c is answered where js is held, and what is held after it
 --   journalReply i js c    == what the call c is answered, from the identifier and what is held
 --   held i cs              == what the calls cs leave held, where the identifier i was handed in
+--   OnePage js             == no two announcements of js have the same originator's key
 use Prim.Native.Nat.{ℕ}
-use mathlib.Core.Bool.{Bool}
-use mathlib.Core.List.{List, [], map}
+use mathlib.Core.Path.{_≡_}
+use mathlib.Core.Bool.{Bool, false}
+use mathlib.Core.List.{List, [], _∷_, map}
 use Rattle.address.specs.Address.{addressKey}
 use Rattle.route.specs.Route.{routeAddress}
 use Rattle.community.specs.Community.{electionIn}
-use Rattle.keyed.specs.Keyed.{arranged}
+use Rattle.keyed.specs.Keyed.{has, arranged}
 use Rattle.keyed.specs.Journal.{Effect, hold, release, neither, after, journalNumber, journalStep}
 use Rattle.table.specs.Table.{Entry, entryOf, ownerOf, announceNumber, withdrawNumber}
 use Rattle.election.specs.Election.{electOf}
@@ -70,3 +72,7 @@ journalReply i js (returning a alg p d) = sent (returningOf (entriesFrom js) a a
 -- at first nothing is held
 abbrev pub held : List ℕ → List Call → List Announcement
 held i cs = after (step (ownerOf i)) [] cs
+
+abbrev pub OnePage : List Announcement → Type 0
+OnePage [] = Unit
+OnePage (p ∷ js) = (has originatorKey (originatorKey p) js ≡ false) × OnePage js

@@ -1,12 +1,12 @@
 // What users link: the calls of one segment. A table is 139 words, which the fresh call makes and the others are lent.
-// The fresh call promises demand 3 of every list of calls.
+// The fresh call promises demand 3 of every list of calls; each call promises that it is one more call of the list.
 use address::Address;
 use election::Answer;
 use returning::Sent;
 use table::Made;
 use table::Verdict;
 ghost use mathlib.Core.Path.{_≡_};
-ghost use mathlib.Core.List.{List};
+ghost use mathlib.Core.List.{List, []};
 ghost use mathlib.Core.Bool.{true};
 ghost use lib.Count.{ones};
 ghost use Rattle.route.specs.Route.{Fault, routeNumber};
@@ -15,14 +15,15 @@ ghost use Rattle.table.specs.Words.{tableIn, Valid, Told};
 ghost use Rattle.election.specs.Election.{electOf, NoneNamed};
 ghost use Rattle.returning.specs.Returning.{returningOf};
 ghost use Rattle.segment.specs.Calls as calls;
-ghost use Rattle.segment.specs.Demand3.{Demand3};
+ghost use Rattle.segment.specs.Demand3.{Demand3, Follows, tableAfter};
 ghost use Rattle.segment.specs.Values.{starred, allRight};
 
 // A fresh table for an identifier. For a reserved one, or one that is not ten octets, 4 and the empty table of the all-zero identifier.
-// Whatever list of calls follows, demand 3 holds of it; and the definitions compute document 01's starred values.
+// It is the table that the empty list of calls leaves. Whatever list of calls follows, demand 3 holds of it; and the definitions compute document 01's starred values.
 pub fn fresh(esi: &[u8]) -> Made
     ensures answer { λ r. ⌜ Told (freshTable (now (esi .entry))) (r .number) 0 (r .table) ⌝ }
     ensures kept { λ r. ⌜ Valid (r .table) ⌝ }
+    ensures starts { λ r. ⌜ tableIn (r .table) ≡ tableAfter (now (esi .entry)) [] ⌝ }
     ensures demand3 { λ r. ⌜ ((cs : List calls.Call) → Demand3 (now (esi .entry)) cs) ⌝ }
     ensures values { λ _. ⌜ allRight starred ≡ true ⌝ }
 {
@@ -37,6 +38,7 @@ pub fn announce(t: &mut [u32], route: &[u8], communities: &[u8]) -> Verdict
     ensures answer { λ r. ⌜ Told (announced (tableIn (now (t .entry))) (now (route .entry)) (now (communities .entry))) (r .number) (r .place) (now (t .exit)) ⌝ }
     ensures kept { λ _. ⌜ Valid (now (t .exit)) ⌝ }
     ensures call { λ r. ⌜ calls.Changes (tableIn (now (t .entry))) (calls.announce (now (route .entry)) (now (communities .entry))) (r .number) (tableIn (now (t .exit))) ⌝ }
+    ensures follows { λ r. ⌜ Follows (tableIn (now (t .entry))) (calls.announce (now (route .entry)) (now (communities .entry))) (calls.changed (r .number)) (tableIn (now (t .exit))) ⌝ }
     ensures fault { λ r. ⌜ Fault (now (route .entry)) (routeNumber (now (route .entry))) (r .place) ⌝ }
 {
     table::announce(t, route, communities)
@@ -48,6 +50,7 @@ pub fn withdraw(t: &mut [u32], address: Address) -> u8
     ensures answer { λ r. ⌜ Told (withdrawn (tableIn (now (t .entry))) address) r 0 (now (t .exit)) ⌝ }
     ensures kept { λ _. ⌜ Valid (now (t .exit)) ⌝ }
     ensures call { λ r. ⌜ calls.Changes (tableIn (now (t .entry))) (calls.withdraw address) r (tableIn (now (t .exit))) ⌝ }
+    ensures follows { λ r. ⌜ Follows (tableIn (now (t .entry))) (calls.withdraw address) (calls.changed r) (tableIn (now (t .exit))) ⌝ }
 {
     table::withdraw(t, address)
 }
@@ -59,6 +62,7 @@ pub fn elect(t: &[u32], tag: u32, ready: &[Address]) -> Answer
     ensures counted { λ r. ⌜ r .n ≡ ones (r .candidates) ⌝ }
     ensures none_named { λ r. ⌜ NoneNamed (live (tableIn (now (t .entry)))) tag (now (ready .entry)) r ⌝ }
     ensures call { λ r. ⌜ calls.replyTo (tableIn (now (t .entry))) (calls.elect tag (now (ready .entry))) ≡ calls.elected r ⌝ }
+    ensures follows { λ r. ⌜ Follows (tableIn (now (t .entry))) (calls.elect tag (now (ready .entry))) (calls.elected r) (tableIn (now (t .entry))) ⌝ }
 {
     election::elect(t, tag, ready)
 }
@@ -68,6 +72,7 @@ pub fn returning(t: &[u32], address: Address, algorithm: u8, preference: u16, dp
     requires { ⌜ Valid (now t) ⌝ }
     ensures answer { λ r. ⌜ r ≡ returningOf (live (tableIn (now (t .entry)))) address algorithm preference dp ⌝ }
     ensures call { λ r. ⌜ calls.replyTo (tableIn (now (t .entry))) (calls.returning address algorithm preference dp) ≡ calls.sent r ⌝ }
+    ensures follows { λ r. ⌜ Follows (tableIn (now (t .entry))) (calls.returning address algorithm preference dp) (calls.sent r) (tableIn (now (t .entry))) ⌝ }
 {
     returning::returning(t, address, algorithm, preference, dp)
 }

@@ -7,33 +7,21 @@ use borrow.Author.Needs.{needs}
 use Rattle.bench.proofs.end.Statement.{statement}
 use Rattle.bench.proofs.end.Tie as tie
 
-finish-requires : tie.Need-finish-requires
-finish-requires c κs = search needs
-
-slice-reshare-prefix-write-all : tie.Need-slice-reshare-prefix-write-all
-slice-reshare-prefix-write-all c =
+slice-reshare-prefix-write-lines : tie.Need-slice-reshare-prefix-write-lines
+slice-reshare-prefix-write-lines c =
     let p = c .before .before .finish .ensures .0 in
     omega (arith, put-within p (omega arith), put-length p)
 
-slice-aggregate-write-all : tie.Need-slice-aggregate-write-all
-slice-aggregate-write-all c = sym (length-take-le _ _ (slice-reshare-prefix-write-all (c .before)))
-
-write-all-requires : tie.Need-write-all-requires
-write-all-requires c κs = search needs
-
-same-length : tie.Need-same-length
-same-length c = search needs
-
-returns : tie.Need-returns
-returns c = search needs
+slice-aggregate-write-lines : tie.Need-slice-aggregate-write-lines
+slice-aggregate-write-lines c = sym (length-take-le _ _ (slice-reshare-prefix-write-lines (c .before)))
 
 pub end-spec : {M : Type 1} → statement M
 end-spec =
     tie.close
     (tie.spec
-    finish-requires
-    slice-reshare-prefix-write-all
-    slice-aggregate-write-all
-    write-all-requires
-    same-length
-    returns)
+    (λ c κs. search needs)
+    slice-reshare-prefix-write-lines
+    slice-aggregate-write-lines
+    (λ c κs. search needs)
+    (λ c. search needs)
+    (λ c. search needs))

@@ -7,17 +7,11 @@ use borrow.Author.Needs.{needs}
 use Rattle.blocks.proofs.advance.Statement.{statement}
 use Rattle.blocks.proofs.advance.Tie as tie
 
-sub-room : tie.Need-sub-room
-sub-room c = search needs
-
 returns : tie.Need-returns
 returns c =
     let s = c .before .before .before .before in
     let a = s .args in
     (advanced-none (stateIn (a .phase) (a .t .now)) (a .input .now) (a .used) (a .out .now) (a .wrote) (s .pre .0) (a .phase) (s .pre .1) (stopped-room _ _ _ (omega (arith, c .if1 .taken))), s .pre .2)
-
-ended-requires : tie.Need-ended-requires
-ended-requires c κs = search needs
 
 returns-2 : tie.Need-returns-2
 returns-2 c =
@@ -33,24 +27,15 @@ take-record-requires c κs =
     let s = c .before .before .before .before .before .before .before .before in
     (s .pre .0, omega arith, sym (c .before .before .before .ended .ensures) ∙ c .before .before .if2 .left, s .pre .2)
 
-same-length : tie.Need-same-length
-same-length c = search needs
-
-same-length-2 : tie.Need-same-length-2
-same-length-2 c = search needs
-
-returns-3 : tie.Need-returns-3
-returns-3 c = search needs
-
 pub advance-spec : {M : Type 1} → statement M
 advance-spec =
     tie.close
     (tie.spec
-    sub-room
+    (λ c. search needs)
     returns
-    ended-requires
+    (λ c κs. search needs)
     returns-2
     take-record-requires
-    same-length
-    same-length-2
-    returns-3)
+    (λ c. search needs)
+    (λ c. search needs)
+    (λ c. search needs))

@@ -5,15 +5,6 @@ use borrow.Author.Needs.{needs}
 use Rattle.blocks.proofs.ended.Statement.{statement}
 use Rattle.blocks.proofs.ended.Tie as tie
 
-enum-told : tie.Need-enum-told
-enum-told c = search needs
-
-enum-told-2 : tie.Need-enum-told-2
-enum-told-2 c = search needs
-
-enum-told-3 : tie.Need-enum-told-3
-enum-told-3 c = search needs
-
 returns : tie.Need-returns
 unfolding isEnd
 returns c = ap isEnd (sym (c .enum-told .given .1))
@@ -27,4 +18,4 @@ unfolding isEnd
 returns-3 c = ap isEnd (sym (c .enum-told3 .given .1))
 
 pub ended-spec : {M : Type 1} → statement M
-ended-spec = tie.close (tie.spec enum-told enum-told-2 enum-told-3 returns returns-2 returns-3)
+ended-spec = tie.close (tie.spec (λ c. search needs) (λ c. search needs) (λ c. search needs) returns returns-2 returns-3)

@@ -18,18 +18,12 @@ Inv-loop block₀ used filled end n i₀ block i =
 abbrev μ-loop : tie.MeasureT-loop
 μ-loop block₀ used filled end n i₀ block i = n - i
 
-least-requires : tie.Need-least-requires Inv-loop μ-loop
-least-requires c κs = search needs
-
 returns : tie.Need-returns Inv-loop μ-loop
 returns c =
     let e = c .before in
     let a = e .before .before .args in
     let k = kept-none (a .block .now) (a .used) (a .filled) (omega (arith, e .least .ensures)) in
     (ap length (sym k), sym (stored-none k))
-
-sub-n : tie.Need-sub-n Inv-loop μ-loop
-sub-n c = omega arith
 
 loop-holds : tie.Need-loop-holds Inv-loop μ-loop
 loop-holds c =
@@ -45,12 +39,6 @@ slice-read-block c = omega (arith, c .before .before .before .before .least .ens
 
 slice-write-block : tie.Need-slice-write-block Inv-loop μ-loop
 slice-write-block c = omega (arith, c .before .before .before .before .least .ensures, c .before .before .loop .inv .2)
-
-add-i : tie.Need-add-i Inv-loop μ-loop
-add-i c = omega arith
-
-loop-less : tie.Need-loop-less Inv-loop μ-loop
-loop-less c = omega arith
 
 loop-again : tie.Need-loop-again Inv-loop μ-loop
 loop-again c =
@@ -75,15 +63,15 @@ keep-spec =
     (tie.spec
     Inv-loop
     μ-loop
-    least-requires
+    (λ c κs. search needs)
     returns
-    sub-n
+    (λ c. omega arith)
     loop-holds
     add-block
     slice-read-block
     slice-write-block
-    add-i
-    loop-less
+    (λ c. omega arith)
+    (λ c. omega arith)
     loop-again
     same-length
     returns-2)

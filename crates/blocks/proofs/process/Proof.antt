@@ -24,12 +24,6 @@ loop-holds c = (refl, refl, ran-none _ _ _ _, c .before .before .before .pre)
 advance-requires : tie.Need-advance-requires Inv-loop μ-loop
 advance-requires c κs = let i = c .before .before .loop .inv in (i .2 .used, omega (arith, i .1, i .2 .wrote), i .3)
 
-same-length : tie.Need-same-length Inv-loop μ-loop
-same-length c = search needs
-
-same-length-2 : tie.Need-same-length-2 Inv-loop μ-loop
-same-length-2 c = search needs
-
 returns : tie.Need-returns Inv-loop μ-loop
 returns c =
     let a = c .before .before .before .before .before .before .advance .ensures in
@@ -53,8 +47,8 @@ process-spec =
     μ-loop
     loop-holds
     advance-requires
-    same-length
-    same-length-2
+    (λ c. search needs)
+    (λ c. search needs)
     returns
     loop-less
     loop-again)

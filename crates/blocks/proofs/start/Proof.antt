@@ -4,16 +4,10 @@ use borrow.Author.Needs.{needs}
 use Rattle.blocks.proofs.start.Statement.{statement}
 use Rattle.blocks.proofs.start.Tie as tie
 
-slice-aggregate-fresh : tie.Need-slice-aggregate-fresh
-slice-aggregate-fresh c = search needs
-
-fresh-requires : tie.Need-fresh-requires
-fresh-requires c κs = search needs
-
 returns : tie.Need-returns
 returns c =
     let e = started _ (c .before .fresh .ensures .0) in
-    (e, (run-first e, c .before .fresh .ensures .1))
+    (e, (run-first e, c .before .fresh .ensures .1 .0))
 
 pub start-spec : {M : Type 1} → statement M
-start-spec = tie.close (tie.spec slice-aggregate-fresh fresh-requires returns)
+start-spec = tie.close (tie.spec (λ c. search needs) (λ c κs. search needs) returns)

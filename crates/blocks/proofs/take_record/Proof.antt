@@ -10,47 +10,17 @@ use borrow.Author.Needs.{needs}
 use Rattle.blocks.proofs.take_record.Statement.{statement}
 use Rattle.blocks.proofs.take_record.Tie as tie
 
-frame-at-requires : tie.Need-frame-at-requires
-frame-at-requires c κs = search needs
-
-enum-told : tie.Need-enum-told
-enum-told c = search needs
-
-enum-told-2 : tie.Need-enum-told-2
-enum-told-2 c = search needs
-
-enum-told-3 : tie.Need-enum-told-3
-enum-told-3 c = search needs
-
-slice-aggregate-put-run : tie.Need-slice-aggregate-put-run
-slice-aggregate-put-run c = search needs
-
-put-run-requires : tie.Need-put-run-requires
-put-run-requires c κs = search needs
-
-enum-known-frame : tie.Need-enum-known-frame
-enum-known-frame c = search needs
-
 add-after : tie.Need-add-after
 add-after c =
     let a = c .before .before .before .before .before .before .before .args in
     let w = frame-told (a .input .now) (a .used) (sym (c .before .before .before .frame-at .ensures) ∙ c .before .frame .given .1) in
     omega (arith, w .fits)
 
-sub-take-turn : tie.Need-sub-take-turn
-sub-take-turn c = search needs
-
-part-take-turn-start : tie.Need-part-take-turn-start
-part-take-turn-start c = search needs
-
 part-take-turn-end : tie.Need-part-take-turn-end
 part-take-turn-end c =
     let a = c .before .before .before .before .before .before .before .before .args in
     let w = frame-told (a .input .now) (a .used) (sym (c .before .before .before .before .frame-at .ensures) ∙ c .before .before .frame .given .1) in
     omega (arith, w .fits)
-
-take-turn-requires : tie.Need-take-turn-requires
-take-turn-requires c κs = search needs
 
 returns : tie.Need-returns
 returns c =
@@ -70,24 +40,15 @@ returns-2 c =
       s .pre .3,
     )
 
-same-length : tie.Need-same-length
-same-length c = search needs
-
 returns-3 : tie.Need-returns-3
 returns-3 c =
-    let s = c .before .before .before .before .before .before .before .before .before .before .before in
+    let s = c .before .before .before .before .before .before .before .before .before .before in
     let a = s .args in (
       advanced-bad (stateIn (a .phase) (a .t .now)) (a .input .now) (a .used) (a .out .now) (a .wrote) (s .pre .0) (a .t .now) (s .pre .2)
-          (frame-told (a .input .now) (a .used) (sym (c .before .before .before .before .before .before .before .frame-at .ensures) ∙ c .before .before .before .before .before .enum-told3 .given .1))
-          (written (c .before .before .put-run .ensures) (omega arith)),
+          (frame-told (a .input .now) (a .used) (sym (c .before .before .before .before .before .before .frame-at .ensures) ∙ c .before .before .before .before .enum-told3 .given .1))
+          (written (c .before .before .put-bad .ensures) (omega arith)),
       s .pre .3,
     )
-
-same-length-2 : tie.Need-same-length-2
-same-length-2 c = search needs
-
-same-length-3 : tie.Need-same-length-3
-same-length-3 c = search needs
 
 returns-4 : tie.Need-returns-4
 returns-4 c =
@@ -102,22 +63,21 @@ pub take-record-spec : {M : Type 1} → statement M
 take-record-spec =
     tie.close
     (tie.spec
-    frame-at-requires
-    enum-told
-    enum-told-2
-    enum-told-3
-    slice-aggregate-put-run
-    put-run-requires
-    enum-known-frame
+    (λ c κs. search needs)
+    (λ c. search needs)
+    (λ c. search needs)
+    (λ c. search needs)
+    (λ c κs. search needs)
+    (λ c. search needs)
     add-after
-    sub-take-turn
-    part-take-turn-start
+    (λ c. search needs)
+    (λ c. search needs)
     part-take-turn-end
-    take-turn-requires
+    (λ c κs. search needs)
     returns
     returns-2
-    same-length
+    (λ c. search needs)
     returns-3
-    same-length-2
-    same-length-3
+    (λ c. search needs)
+    (λ c. search needs)
     returns-4)

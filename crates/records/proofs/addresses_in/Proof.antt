@@ -20,45 +20,6 @@ abbrev μ-loop : tie.MeasureT-loop
 loop-holds : tie.Need-loop-holds Inv-loop μ-loop
 loop-holds c = (omega arith, omega arith, omega arith, refl)
 
-mul-p : tie.Need-mul-p Inv-loop μ-loop
-mul-p c = omega arith
-
-shared-slice-read-u32-of : tie.Need-shared-slice-read-u32-of Inv-loop μ-loop
-shared-slice-read-u32-of c = omega arith
-
-add-u32-of : tie.Need-add-u32-of Inv-loop μ-loop
-add-u32-of c = omega arith
-
-shared-slice-read-u32-of-2 : tie.Need-shared-slice-read-u32-of-2 Inv-loop μ-loop
-shared-slice-read-u32-of-2 c = omega arith
-
-add-u32-of-2 : tie.Need-add-u32-of-2 Inv-loop μ-loop
-add-u32-of-2 c = omega arith
-
-shared-slice-read-u32-of-3 : tie.Need-shared-slice-read-u32-of-3 Inv-loop μ-loop
-shared-slice-read-u32-of-3 c = omega arith
-
-add-u32-of-3 : tie.Need-add-u32-of-3 Inv-loop μ-loop
-add-u32-of-3 c = omega arith
-
-shared-slice-read-u32-of-4 : tie.Need-shared-slice-read-u32-of-4 Inv-loop μ-loop
-shared-slice-read-u32-of-4 c = omega arith
-
-u32-of-requires : tie.Need-u32-of-requires Inv-loop μ-loop
-u32-of-requires c κs = search needs
-
-mul-ready : tie.Need-mul-ready Inv-loop μ-loop
-mul-ready c = omega arith
-
-array-write-ready : tie.Need-array-write-ready Inv-loop μ-loop
-array-write-ready c = omega arith
-
-add-i : tie.Need-add-i Inv-loop μ-loop
-add-i c = omega arith
-
-loop-less : tie.Need-loop-less Inv-loop μ-loop
-loop-less c = omega arith
-
 loop-again : tie.Need-loop-again Inv-loop μ-loop
 loop-again c =
     let at = c .before .before .before .before .before .before in
@@ -83,18 +44,18 @@ addresses-in-spec =
     Inv-loop
     μ-loop
     loop-holds
-    mul-p
-    shared-slice-read-u32-of
-    add-u32-of
-    shared-slice-read-u32-of-2
-    add-u32-of-2
-    shared-slice-read-u32-of-3
-    add-u32-of-3
-    shared-slice-read-u32-of-4
-    u32-of-requires
-    mul-ready
-    array-write-ready
-    add-i
-    loop-less
+    (λ c. omega arith)
+    (λ c. omega arith)
+    (λ c. omega arith)
+    (λ c. omega arith)
+    (λ c. omega arith)
+    (λ c. omega arith)
+    (λ c. omega arith)
+    (λ c. omega arith)
+    (λ c κs. search needs)
+    (λ c. omega arith)
+    (λ c. omega arith)
+    (λ c. omega arith)
+    (λ c. omega arith)
     loop-again
     returns)

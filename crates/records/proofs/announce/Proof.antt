@@ -10,27 +10,6 @@ use Rattle.records.proofs.announce.Tie as tie
 slice-aggregate-announce : tie.Need-slice-aggregate-announce
 slice-aggregate-announce c = sym (length-take-le 25 (c .before .before .before .before .before .args .payload .now) (c .before .before .before .before .before .pre .1))
 
-sub-announce : tie.Need-sub-announce
-sub-announce c = search needs
-
-part-announce-start : tie.Need-part-announce-start
-part-announce-start c = search needs
-
-part-announce-end : tie.Need-part-announce-end
-part-announce-end c = search needs
-
-announce-requires : tie.Need-announce-requires
-announce-requires c κs = search needs
-
-put-read-requires : tie.Need-put-read-requires
-put-read-requires c κs = search needs
-
-same-length : tie.Need-same-length
-same-length c = search needs
-
-same-length-2 : tie.Need-same-length-2
-same-length-2 c = search needs
-
 returns : tie.Need-returns
 returns c =
     let an = c .before .before .before .before .before .before .announce .ensures in
@@ -42,11 +21,11 @@ announce-spec =
     tie.close
     (tie.spec
     slice-aggregate-announce
-    sub-announce
-    part-announce-start
-    part-announce-end
-    announce-requires
-    put-read-requires
-    same-length
-    same-length-2
+    (λ c. search needs)
+    (λ c. search needs)
+    (λ c. search needs)
+    (λ c κs. search needs)
+    (λ c κs. search needs)
+    (λ c. search needs)
+    (λ c. search needs)
     returns)

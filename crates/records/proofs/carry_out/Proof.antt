@@ -6,49 +6,16 @@ use borrow.Author.Needs.{needs}
 use Rattle.records.proofs.carry_out.Statement.{statement}
 use Rattle.records.proofs.carry_out.Tie as tie
 
-enum-told : tie.Need-enum-told
-enum-told c = search needs
-
-refuse-requires : tie.Need-refuse-requires
-refuse-requires c κs = search needs
-
-same-length : tie.Need-same-length
-same-length c = search needs
-
 returns : tie.Need-returns
 returns c =
     let s = c .before .before .before .before .before .before .before .before .before .before in
     let a = s .args in
     stepped-as (c .before .before .refuse .ensures (a .t .now) (s .pre .2)) (turn-none (a .phase) (tableIn (a .t .now)) (a .kind) (a .payload .now) (c .before .before .before .before .before .enum-told .given .1) (c .before .before .before .before .if1 .taken))
 
-begin-requires : tie.Need-begin-requires
-begin-requires c κs = search needs
-
-enum-told-2 : tie.Need-enum-told-2
-enum-told-2 c = search needs
-
-later-requires : tie.Need-later-requires
-later-requires c κs = search needs
-
-enum-told-3 : tie.Need-enum-told-3
-enum-told-3 c = search needs
-
-same-length-2 : tie.Need-same-length-2
-same-length-2 c = search needs
-
-same-length-3 : tie.Need-same-length-3
-same-length-3 c = search needs
-
 returns-2 : tie.Need-returns-2
 returns-2 c =
     let a = c .before .before .before .before .before .before .before .before .before .before .before .before .before .args in
     stepped-as (c .before .before .before .before .begin .ensures) (turn-begin (a .phase) (tableIn (a .t .now)) (a .kind) (a .payload .now) (c .before .before .before .before .before .before .before .before .enum-told .given .1) (c .before .before .before .before .before .before .before .if1 .left))
-
-same-length-4 : tie.Need-same-length-4
-same-length-4 c = search needs
-
-same-length-5 : tie.Need-same-length-5
-same-length-5 c = search needs
 
 returns-3 : tie.Need-returns-3
 returns-3 c =
@@ -65,18 +32,18 @@ pub carry-out-spec : {M : Type 1} → statement M
 carry-out-spec =
     tie.close
     (tie.spec
-    enum-told
-    refuse-requires
-    same-length
+    (λ c. search needs)
+    (λ c κs. search needs)
+    (λ c. search needs)
     returns
-    begin-requires
-    enum-told-2
-    later-requires
-    enum-told-3
-    same-length-2
-    same-length-3
+    (λ c κs. search needs)
+    (λ c. search needs)
+    (λ c κs. search needs)
+    (λ c. search needs)
+    (λ c. search needs)
+    (λ c. search needs)
     returns-2
-    same-length-4
-    same-length-5
+    (λ c. search needs)
+    (λ c. search needs)
     returns-3
     returns-4)

@@ -4,20 +4,8 @@ use borrow.Author.Needs.{needs}
 use Rattle.records.proofs.put_answer.Statement.{statement}
 use Rattle.records.proofs.put_answer.Tie as tie
 
-put-line-requires : tie.Need-put-line-requires
-put-line-requires c κs = search needs
-
-same-length : tie.Need-same-length
-same-length c = search needs
-
 returns : tie.Need-returns
 returns c = written-as (c .before .before .put-line .ensures) (query-refused _ (c .before .before .before .before .if1 .taken))
-
-put-elected-requires : tie.Need-put-elected-requires
-put-elected-requires c κs = search needs
-
-same-length-2 : tie.Need-same-length-2
-same-length-2 c = search needs
 
 returns-2 : tie.Need-returns-2
 returns-2 c = written-as (c .before .before .put-elected .ensures) (query-accepted _ (c .before .before .before .before .if1 .left))
@@ -25,4 +13,4 @@ returns-2 c = written-as (c .before .before .put-elected .ensures) (query-accept
 pub put-answer-spec : {M : Type 1} → statement M
 put-answer-spec =
     tie.close
-    (tie.spec put-line-requires same-length returns put-elected-requires same-length-2 returns-2)
+    (tie.spec (λ c κs. search needs) (λ c. search needs) returns (λ c κs. search needs) (λ c. search needs) returns-2)

@@ -8,27 +8,6 @@ use borrow.Author.Needs.{needs}
 use Rattle.records.proofs.put_elected.Statement.{statement}
 use Rattle.records.proofs.put_elected.Tie as tie
 
-slice-aggregate-put-run : tie.Need-slice-aggregate-put-run
-slice-aggregate-put-run c = search needs
-
-put-run-requires : tie.Need-put-run-requires
-put-run-requires c κs = search needs
-
-put-dotted-requires : tie.Need-put-dotted-requires
-put-dotted-requires c κs = search needs
-
-put-octet-requires : tie.Need-put-octet-requires
-put-octet-requires c κs = search needs
-
-put-decimal-requires : tie.Need-put-decimal-requires
-put-decimal-requires c κs = search needs
-
-put-octet-requires-2 : tie.Need-put-octet-requires-2
-put-octet-requires-2 c κs = search needs
-
-same-length : tie.Need-same-length
-same-length c = search needs
-
 returns : tie.Need-returns
 unfolding electedLine
 returns c =
@@ -46,11 +25,11 @@ pub put-elected-spec : {M : Type 1} → statement M
 put-elected-spec =
     tie.close
     (tie.spec
-    slice-aggregate-put-run
-    put-run-requires
-    put-dotted-requires
-    put-octet-requires
-    put-decimal-requires
-    put-octet-requires-2
-    same-length
+    (λ c. search needs)
+    (λ c κs. search needs)
+    (λ c κs. search needs)
+    (λ c κs. search needs)
+    (λ c κs. search needs)
+    (λ c κs. search needs)
+    (λ c. search needs)
     returns)

@@ -17,22 +17,10 @@ returns-2 c =
     let a = c .before .before .before .before .before .args in
     (λ h. absurd (false≢true (sym (takes-short (a .out .now) (a .at) (a .payload .now) (omega (arith, c .if2 .taken))) ∙ h)), λ _. (refl, refl, refl, refl))
 
-sub-room : tie.Need-sub-room
-sub-room c = search needs
-
 returns-3 : tie.Need-returns-3
 returns-3 c =
     let a = c .before .before .before .before .before .before .args in
     (λ h. absurd (false≢true (sym (takes-short (a .out .now) (a .at) (a .payload .now) (omega (arith, c .if3 .taken))) ∙ h)), λ _. (refl, refl, refl, refl))
-
-carry-out-requires : tie.Need-carry-out-requires
-carry-out-requires c κs = search needs
-
-same-length : tie.Need-same-length
-same-length c = search needs
-
-same-length-2 : tie.Need-same-length-2
-same-length-2 c = search needs
 
 returns-4 : tie.Need-returns-4
 returns-4 c =
@@ -45,9 +33,9 @@ take-turn-spec =
     (tie.spec
     returns
     returns-2
-    sub-room
+    (λ c. search needs)
     returns-3
-    carry-out-requires
-    same-length
-    same-length-2
+    (λ c κs. search needs)
+    (λ c. search needs)
+    (λ c. search needs)
     returns-4)

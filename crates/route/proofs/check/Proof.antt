@@ -9,14 +9,8 @@ use Rattle.route.proofs.check.Tie as tie
 returns : tie.Need-returns
 returns c = short _ (c .if1 .taken)
 
-shared-slice-read-if2 : tie.Need-shared-slice-read-if2
-shared-slice-read-if2 c = search needs
-
 returns-2 : tie.Need-returns-2
 returns-2 c = not-type _ (omega arith) (c .if2 .taken)
-
-shared-slice-read-if3 : tie.Need-shared-slice-read-if3
-shared-slice-read-if3 c = search needs
 
 returns-3 : tie.Need-returns-3
 returns-3 c = not-bits _ (omega arith) (omega arith) (c .if3 .taken)
@@ -24,44 +18,11 @@ returns-3 c = not-bits _ (omega arith) (omega arith) (c .if3 .taken)
 returns-4 : tie.Need-returns-4
 returns-4 c = not-total _ (omega arith) (omega arith) (omega arith) (c .if4 .taken)
 
-shared-slice-read-if5 : tie.Need-shared-slice-read-if5
-shared-slice-read-if5 c = search needs
-
 returns-5 : tie.Need-returns-5
 returns-5 c = not-length _ (omega arith) (omega arith) (omega arith) (omega arith) (c .if5 .taken)
 
-sub-is-reserved : tie.Need-sub-is-reserved
-sub-is-reserved c = search needs
-
-part-is-reserved-start : tie.Need-part-is-reserved-start
-part-is-reserved-start c = search needs
-
-part-is-reserved-end : tie.Need-part-is-reserved-end
-part-is-reserved-end c = search needs
-
-is-reserved-requires : tie.Need-is-reserved-requires
-is-reserved-requires c κs = search needs
-
 returns-6 : tie.Need-returns-6
 returns-6 c = reserved-esi _ (omega arith) (omega arith) (omega arith) (omega arith) (omega arith) (sym (c .before .is-reserved .ensures) ∙ c .if6 .taken)
-
-shared-slice-read-u32-of : tie.Need-shared-slice-read-u32-of
-shared-slice-read-u32-of c = search needs
-
-shared-slice-read-u32-of-2 : tie.Need-shared-slice-read-u32-of-2
-shared-slice-read-u32-of-2 c = search needs
-
-shared-slice-read-u32-of-3 : tie.Need-shared-slice-read-u32-of-3
-shared-slice-read-u32-of-3 c = search needs
-
-shared-slice-read-u32-of-4 : tie.Need-shared-slice-read-u32-of-4
-shared-slice-read-u32-of-4 c = search needs
-
-u32-of-requires : tie.Need-u32-of-requires
-u32-of-requires c κs = search needs
-
-is-zero-requires : tie.Need-is-zero-requires
-is-zero-requires c κs = search needs
 
 returns-7 : tie.Need-returns-7
 returns-7 c =
@@ -84,23 +45,23 @@ check-spec =
     tie.close
     (tie.spec
     returns
-    shared-slice-read-if2
+    (λ c. search needs)
     returns-2
-    shared-slice-read-if3
+    (λ c. search needs)
     returns-3
     returns-4
-    shared-slice-read-if5
+    (λ c. search needs)
     returns-5
-    sub-is-reserved
-    part-is-reserved-start
-    part-is-reserved-end
-    is-reserved-requires
+    (λ c. search needs)
+    (λ c. search needs)
+    (λ c. search needs)
+    (λ c κs. search needs)
     returns-6
-    shared-slice-read-u32-of
-    shared-slice-read-u32-of-2
-    shared-slice-read-u32-of-3
-    shared-slice-read-u32-of-4
-    u32-of-requires
-    is-zero-requires
+    (λ c. search needs)
+    (λ c. search needs)
+    (λ c. search needs)
+    (λ c. search needs)
+    (λ c κs. search needs)
+    (λ c κs. search needs)
     returns-7
     returns-8)

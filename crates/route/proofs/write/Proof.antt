@@ -11,14 +11,8 @@ use Rattle.route.proofs.write.Tie as tie
 returns : tie.Need-returns
 returns c = wrote-no-distinguisher _ _ _ _ (c .if1 .taken)
 
-is-reserved-requires : tie.Need-is-reserved-requires
-is-reserved-requires c κs = search needs
-
 returns-2 : tie.Need-returns-2
 returns-2 c = wrote-reserved _ _ _ _ (omega arith) (sym (c .before .is-reserved .ensures) ∙ c .if2 .taken)
-
-is-zero-requires : tie.Need-is-zero-requires
-is-zero-requires c κs = search needs
 
 returns-3 : tie.Need-returns-3
 returns-3 c =
@@ -30,36 +24,6 @@ returns-4 c =
     let zero = c .before in
     let reserved = zero .before .before in
     wrote-short _ _ _ _ (omega arith) (sym (reserved .before .is-reserved .ensures) ∙ reserved .if2 .left) (sym (zero .before .is-zero .ensures) ∙ zero .if3 .left) (omega arith)
-
-of-u32-requires : tie.Need-of-u32-requires
-of-u32-requires c κs = search needs
-
-slice-aggregate-store : tie.Need-slice-aggregate-store
-slice-aggregate-store c = search needs
-
-store-requires : tie.Need-store-requires
-store-requires c κs = search needs
-
-store-requires-2 : tie.Need-store-requires-2
-store-requires-2 c κs = search needs
-
-store-requires-3 : tie.Need-store-requires-3
-store-requires-3 c κs = search needs
-
-slice-aggregate-store-2 : tie.Need-slice-aggregate-store-2
-slice-aggregate-store-2 c = search needs
-
-store-requires-4 : tie.Need-store-requires-4
-store-requires-4 c κs = search needs
-
-slice-aggregate-store-3 : tie.Need-slice-aggregate-store-3
-slice-aggregate-store-3 c = search needs
-
-store-requires-5 : tie.Need-store-requires-5
-store-requires-5 c κs = search needs
-
-same-length : tie.Need-same-length
-same-length c = search needs
 
 returns-5 : tie.Need-returns-5
 returns-5 c =
@@ -82,19 +46,19 @@ write-spec =
     tie.close
     (tie.spec
     returns
-    is-reserved-requires
+    (λ c κs. search needs)
     returns-2
-    is-zero-requires
+    (λ c κs. search needs)
     returns-3
     returns-4
-    of-u32-requires
-    slice-aggregate-store
-    store-requires
-    store-requires-2
-    store-requires-3
-    slice-aggregate-store-2
-    store-requires-4
-    slice-aggregate-store-3
-    store-requires-5
-    same-length
+    (λ c κs. search needs)
+    (λ c. search needs)
+    (λ c κs. search needs)
+    (λ c κs. search needs)
+    (λ c κs. search needs)
+    (λ c. search needs)
+    (λ c κs. search needs)
+    (λ c. search needs)
+    (λ c κs. search needs)
+    (λ c. search needs)
     returns-5)

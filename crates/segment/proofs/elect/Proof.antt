@@ -2,18 +2,18 @@
 use denote.Ref.{now}
 use Rattle.table.specs.Words.{tableIn}
 use Rattle.segment.proofs.Calls.{elect-replies}
+use Rattle.segment.proofs.Demand3.{elect-follows}
 use borrow.Author.Needs.{needs}
 use Rattle.segment.proofs.elect.Statement.{statement}
 use Rattle.segment.proofs.elect.Tie as tie
-
-elect-requires : tie.Need-elect-requires
-elect-requires c κs = search needs
 
 returns : tie.Need-returns
 returns c =
     let told = c .elect .ensures in
     let a = c .before .before .before .args in
-    (told .0, (told .1 .0, (told .1 .1, elect-replies (tableIn (a .t .now)) (a .tag) (now (a .ready)) (told .0))))
+    let t = tableIn (a .t .now) in
+    let call = elect-replies t (a .tag) (now (a .ready)) (told .0) in
+    (told .0, (told .1 .0, (told .1 .1, (call, elect-follows t (a .tag) (now (a .ready)) call))))
 
 pub elect-spec : {M : Type 1} → statement M
-elect-spec = tie.close (tie.spec elect-requires returns)
+elect-spec = tie.close (tie.spec (λ c κs. search needs) returns)

@@ -1,16 +1,16 @@
--- `fresh` meets its contract: the table's own promises, and demand 3 of every list of calls. Assumes nothing.
+-- `fresh` meets its contract: the table's own promises, that it is where every list starts, and demand 3 of every list of calls. Assumes nothing.
 use denote.Ref.{now}
-use Rattle.segment.proofs.Demand3.{demand3}
+use Rattle.segment.proofs.Demand3.{demand3, starts}
 use Rattle.segment.proofs.Values.{starred-right}
 use borrow.Author.Needs.{needs}
 use Rattle.segment.proofs.fresh.Statement.{statement}
 use Rattle.segment.proofs.fresh.Tie as tie
 
-fresh-requires : tie.Need-fresh-requires
-fresh-requires c κs = search needs
-
 returns : tie.Need-returns
-returns c = (c .fresh .ensures .0, (c .fresh .ensures .1, (demand3 (now (c .before .before .args .esi)), starred-right)))
+returns c =
+    let told = c .fresh .ensures in
+    let i = now (c .before .before .args .esi) in
+    (told .0, (told .1, (starts i _ _ _ (told .0), (demand3 i, starred-right))))
 
 pub fresh-spec : {M : Type 1} → statement M
-fresh-spec = tie.close (tie.spec fresh-requires returns)
+fresh-spec = tie.close (tie.spec (λ c κs. search needs) returns)
