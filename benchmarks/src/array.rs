@@ -3,7 +3,7 @@
 //! branch. Shifts are block moves. Loops over the routes are without branches, for the compiler to vectorize. An address of the ready list is looked for
 //! where a hint says, and else searched for. Nothing that an election derives is kept between calls.
 
-use crate::answer::{Answer, Segment, Sent};
+use crate::answer::{Answer, Segment, Sent, Verdict};
 use crate::octets::{self, Election, MAX_READY, MAX_ROUTES};
 
 const UNUSED: u32 = u32::MAX;
@@ -152,36 +152,40 @@ fn all_places(n: usize) -> u64 {
 }
 
 impl Segment for Table {
-    fn fresh(esi: &[u8]) -> (u8, Table) {
-        let mut table = Table {
+    fn empty() -> Table {
+        Table {
             esi: [0; 10],
             count: 0,
             addresses: [UNUSED; MAX_ROUTES],
             attributes: [0; MAX_ROUTES],
-        };
-        if octets::is_reserved(esi) {
-            return (4, table);
         }
-        table.esi.copy_from_slice(esi);
-        (0, table)
     }
 
-    fn announce(&mut self, route: &[u8], communities: &[u8]) -> u8 {
+    fn fresh(&mut self, esi: &[u8]) -> u8 {
+        *self = Table::empty();
+        if octets::is_reserved(esi) {
+            return 4;
+        }
+        self.esi.copy_from_slice(esi);
+        0
+    }
+
+    fn announce(&mut self, route: &[u8], communities: &[u8]) -> Verdict {
         let address = match octets::check_route(route) {
             Ok(address) => address,
-            Err(number) => return number,
+            Err(refused) => return refused,
         };
         if route[10..20] != self.esi {
-            return 5;
+            return Verdict::refused(5, 0);
         }
         let election = match octets::read_communities(communities) {
             Ok(election) => election,
-            Err(number) => return number,
+            Err(refused) => return refused,
         };
         let attributes = attributes_of(election);
         match self.find(address) {
             Ok(place) => self.attributes[place % MAX_ROUTES] = attributes,
-            Err(_) if self.count >= MAX_ROUTES => return 8,
+            Err(_) if self.count >= MAX_ROUTES => return Verdict::refused(8, 0),
             Err(place) => {
                 self.addresses.copy_within(place..self.count, place + 1);
                 self.attributes.copy_within(place..self.count, place + 1);
@@ -190,7 +194,7 @@ impl Segment for Table {
                 self.count += 1;
             }
         }
-        0
+        Verdict::default()
     }
 
     fn withdraw(&mut self, address: u32) -> u8 {
@@ -296,11 +300,7 @@ impl Segment for Table {
         }
     }
 
-    fn digest(&self, tag: u32) -> u32 {
-        octets::digest(tag, &self.esi)
-    }
-
-    fn count(&self) -> usize {
-        self.count
+    fn digest(tag: u32, esi: &[u8; 10]) -> u32 {
+        octets::digest(tag, esi)
     }
 }

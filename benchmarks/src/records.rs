@@ -73,8 +73,8 @@ impl<T: Segment> Bench<T> {
         };
         match record[2] {
             1 if octets.len() >= 25 => {
-                let number = table.announce(&octets[..25], &octets[25..]);
-                self.placed_line(b'a', number, route_place(number));
+                let told = table.announce(&octets[..25], &octets[25..]);
+                self.placed_line(b'a', told.number, told.place as u8);
                 true
             }
             2 if octets.len() == 4 => {
@@ -118,7 +118,8 @@ impl<T: Segment> Bench<T> {
             self.placed_line(b'p', 13, text_place(text));
             return false;
         };
-        let (number, table) = T::fresh(&esi);
+        let mut table = T::empty();
+        let number = table.fresh(&esi);
         self.placed_line(b'p', number, 0);
         self.table = Some(table);
         number == 0
@@ -159,17 +160,6 @@ impl<T: Segment> Bench<T> {
 
 fn word(octets: &[u8]) -> u32 {
     u32::from_be_bytes([octets[0], octets[1], octets[2], octets[3]])
-}
-
-/// Where a route of 25 octets is wrong, by its number: the length octet, the type, the address length, the identifier or the address.
-fn route_place(number: u8) -> u8 {
-    match number {
-        1 => 1,
-        3 => 20,
-        4 => 10,
-        6 => 21,
-        _ => 0,
-    }
 }
 
 /// Where a text is wrong that says no identifier: its first wrong character, or where one is missing or too many.
