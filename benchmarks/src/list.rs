@@ -128,6 +128,7 @@ impl Segment for List {
         }
     }
 
+    #[inline]
     fn fresh(&mut self, esi: &[u8]) -> u8 {
         *self = List::empty();
         if octets::is_reserved(esi) {
@@ -137,6 +138,7 @@ impl Segment for List {
         0
     }
 
+    #[inline]
     fn announce(&mut self, route: &[u8], communities: &[u8]) -> Verdict {
         let address = match octets::check_route(route) {
             Ok(address) => address,
@@ -162,6 +164,7 @@ impl Segment for List {
         Verdict::default()
     }
 
+    #[inline]
     fn withdraw(&mut self, address: u32) -> u8 {
         if address == 0 {
             return 6;
@@ -174,6 +177,7 @@ impl Segment for List {
         0
     }
 
+    #[inline]
     fn elect(&self, tag: u32, ready: &[u32]) -> Answer {
         if tag == 0 || tag == u32::MAX {
             return Answer::refused(10);
@@ -252,6 +256,7 @@ impl Segment for List {
         }
     }
 
+    #[inline]
     fn returning(&self, address: u32, algorithm: u8, preference: u16, dp: bool) -> Sent {
         if algorithm != 2 && algorithm != 3 {
             return Sent::refused(15);
@@ -298,6 +303,7 @@ impl Segment for List {
         }
     }
 
+    #[inline]
     fn digest(tag: u32, esi: &[u8; 10]) -> u32 {
         octets::digest(tag, esi)
     }

@@ -54,7 +54,7 @@ fn loaded<T: Segment>(runs: &[Run]) -> T {
     let mut table = T::empty();
     table.fresh(&ESI);
     for run in runs {
-        table.announce(&run.route, &run.community);
+        table.announce(&run.route, &run.communities);
     }
     table
 }
@@ -65,15 +65,15 @@ pub fn rounds<T: Segment>(work: &Work, rounds: u32, hearer: &mut impl Hearer) {
         Work::Fresh => {
             let mut table = T::empty();
             for _ in 0..rounds {
-                hearer.hear(black_box(&mut table).fresh(black_box(&ESI)));
+                hearer.hear(black_box(&mut table).fresh(black_box(&ESI[..])));
             }
         }
         Work::Fill { runs } => {
             let mut table = T::empty();
             for _ in 0..rounds {
-                black_box(&mut table).fresh(black_box(&ESI));
+                black_box(&mut table).fresh(black_box(&ESI[..]));
                 for run in black_box(runs) {
-                    hearer.hear(table.announce(&run.route, &run.community));
+                    hearer.hear(table.announce(&run.route, &run.communities));
                 }
             }
             close(&table, runs, hearer);
@@ -82,7 +82,7 @@ pub fn rounds<T: Segment>(work: &Work, rounds: u32, hearer: &mut impl Hearer) {
             let mut table: T = loaded(runs);
             for call in calls.iter().cycle().take(rounds as usize) {
                 let call = black_box(call);
-                hearer.hear(table.announce(&call.route, &call.community));
+                hearer.hear(table.announce(&call.route, &call.communities));
             }
             close(&table, runs, hearer);
         }
@@ -91,7 +91,7 @@ pub fn rounds<T: Segment>(work: &Work, rounds: u32, hearer: &mut impl Hearer) {
             for run in runs.iter().cycle().take(rounds as usize) {
                 let run = black_box(run);
                 hearer.hear(table.withdraw(run.address));
-                hearer.hear(table.announce(&run.route, &run.community));
+                hearer.hear(table.announce(&run.route, &run.communities));
             }
             close(&table, runs, hearer);
         }
@@ -111,8 +111,9 @@ pub fn rounds<T: Segment>(work: &Work, rounds: u32, hearer: &mut impl Hearer) {
         Work::Returning { runs, algorithm } => {
             let table: T = loaded(runs);
             for address in 1..=rounds {
-                let algorithm = black_box(*algorithm);
-                hearer.hear(table.returning(black_box(address), algorithm, 40_000, true));
+                let (address, algorithm) = black_box((address, *algorithm));
+                let (preference, dp) = black_box((40_000, true));
+                hearer.hear(table.returning(address, algorithm, preference, dp));
             }
         }
         Work::Digest => {

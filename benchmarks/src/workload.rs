@@ -4,11 +4,11 @@ use crate::random::Random;
 
 pub const ESI: [u8; 10] = [0x00, 0x11, 0x22, 0x33, 0x44, 0x55, 0x66, 0x77, 0x88, 0x99];
 
-/// An announcement: a route with one community, and the address that the route has.
+/// An announcement: a route with one community, and the address that the route has. They are vectors, so that no side knows their lengths beforehand.
 #[derive(Clone)]
 pub struct Run {
-    pub route: [u8; 25],
-    pub community: [u8; 8],
+    pub route: Vec<u8>,
+    pub communities: Vec<u8>,
     pub address: u32,
 }
 
@@ -51,8 +51,8 @@ pub fn runs(
     random: &mut Random,
 ) -> Vec<Run> {
     let run = |address: &u32| Run {
-        route: route(esi, *address),
-        community: community(algorithm, ac_df, random.one_in(2), random.word() as u16),
+        route: route(esi, *address).to_vec(),
+        communities: community(algorithm, ac_df, random.one_in(2), random.word() as u16).to_vec(),
         address: *address,
     };
     addresses.iter().map(run).collect()

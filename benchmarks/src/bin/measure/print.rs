@@ -15,7 +15,7 @@ pub fn counts(rows: &[Row], counts: &[Costs]) {
         cells.push(verdict(&row.target, costs).into());
         line(&cells);
     }
-    let met = |(row, costs): &(&Row, &Costs)| verdict(&row.target, *costs) == "met";
+    let met = |(row, costs): &(&Row, &Costs)| verdict(&row.target, costs) == "met";
     let all_met = rows.iter().zip(counts).filter(met).count();
     println!("\nTargets met: {all_met} of {}.\n", rows.len());
 }
