@@ -84,8 +84,6 @@ fn announcements(rows: &mut Vec<Row>, routes: usize) {
 
     let mut push = |name, work| rows.push(row(name, Some(routes), EVERY_CALL, work));
     push("announce, replace", announce(replacing));
-    push("announce, refused: 2, not type 4", announce(wrong_type));
-    push("announce, refused: 5, another segment", announce(elsewhere));
     if routes == 64 {
         push("announce, refused: 8, table full", announce(more));
     }
@@ -100,6 +98,12 @@ fn announcements(rows: &mut Vec<Row>, routes: usize) {
             addresses: strangers,
         },
     );
+    if routes == 64 {
+        // both are refused before the table is looked at
+        let mut push = |name, calls| rows.push(row(name, None, EVERY_CALL, announce(calls)));
+        push("announce, refused: 2, not type 4", wrong_type);
+        push("announce, refused: 5, another segment", elsewhere);
+    }
     rows.push(Row {
         name: "announce, new: a fresh table filled, per route".into(),
         routes: Some(routes),
