@@ -72,10 +72,13 @@ pub fn counts(folder: &Path, rows: &[Row]) -> io::Result<Vec<Costs>> {
     Ok(all)
 }
 
-/// A command that counts the instructions of a program into a file.
+/// A command that counts the instructions of a program into a file. The environment is always the same, since it moves the stack, and the C library's
+/// block moves go by where a block lies.
 pub fn callgrind(out: &Path) -> Command {
     let mut command = Command::new("valgrind");
     command
+        .env_clear()
+        .env("PATH", "/usr/local/bin:/usr/bin:/bin")
         .arg("--tool=callgrind")
         .arg("--quiet")
         .arg(format!("--callgrind-out-file={}", out.display()))
