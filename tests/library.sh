@@ -5,5 +5,5 @@
 set -euo pipefail
 cd "$(dirname "$0")/.."
 rt staticlib exports > /dev/null
-cargo test --release --offline --quiet --manifest-path benchmarks/Cargo.toml --target-dir benchmarks/target --test oracle
+cargo test --offline --quiet --manifest-path benchmarks/Cargo.toml --target-dir benchmarks/target --test oracle
 echo "library: all passed"
