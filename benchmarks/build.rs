@@ -1,12 +1,12 @@
-//! Links the archive of the proved loops, if the environment names one in METER_ARCHIVE. Without it the package has the baselines alone.
+//! Links the archive of the proved calls, which `rt staticlib exports` writes.
+
+use std::path::Path;
 
 fn main() {
-    println!("cargo::rustc-check-cfg=cfg(proved)");
-    println!("cargo::rerun-if-env-changed=METER_ARCHIVE");
-    let Ok(archive) = std::env::var("METER_ARCHIVE") else {
-        return;
-    };
-    println!("cargo::rerun-if-changed={archive}");
-    println!("cargo::rustc-link-arg-bins={archive}");
-    println!("cargo::rustc-cfg=proved");
+    let folder = Path::new(env!("CARGO_MANIFEST_DIR")).join("../target/staticlib");
+    let archive = folder.join("libexports.a");
+    assert!(archive.exists(), "first: rt staticlib exports");
+    println!("cargo::rerun-if-changed={}", archive.display());
+    println!("cargo::rustc-link-search=native={}", folder.display());
+    println!("cargo::rustc-link-lib=static=exports");
 }

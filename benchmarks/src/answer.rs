@@ -1,6 +1,16 @@
-//! The calls that every side of a comparison has, and their answers. Document 01, "The table", "The election", "The returning router".
+//! The calls that every side of a comparison has, and their answers. Document 01, "The table", "The election", "The returning router"; document 02,
+//! M-103 for the place. The structs are laid out as in C, so that the proved calls can answer them.
+
+/// The answer to an announcement: 0 or a refusal number, and the place that a route's refusal speaks of.
+#[repr(C)]
+#[derive(Clone, Copy, Debug, Default, PartialEq, Eq)]
+pub struct Verdict {
+    pub number: u8,
+    pub place: usize,
+}
 
 /// The whole answer of an election: 0 and the elected, or a refusal number and zeros.
+#[repr(C)]
 #[derive(Clone, Copy, Debug, Default, PartialEq, Eq)]
 pub struct Answer {
     pub number: u8,
@@ -11,11 +21,18 @@ pub struct Answer {
 }
 
 /// What a returning router sends: 0 and the pair, or a refusal number and zeros.
+#[repr(C)]
 #[derive(Clone, Copy, Debug, Default, PartialEq, Eq)]
 pub struct Sent {
     pub number: u8,
     pub preference: u16,
     pub dp: bool,
+}
+
+impl Verdict {
+    pub fn refused(number: u8, place: usize) -> Verdict {
+        Verdict { number, place }
+    }
 }
 
 impl Answer {
@@ -37,11 +54,14 @@ impl Sent {
 }
 
 /// The calls of one segment. A refused call leaves the table as it was.
-pub trait Segment: Sized {
-    /// A fresh table and its number. For a reserved identifier: 4, and an empty table of the all-zero one.
-    fn fresh(esi: &[u8]) -> (u8, Self);
+pub trait Segment {
+    /// The empty table of the all-zero identifier.
+    fn empty() -> Self;
 
-    fn announce(&mut self, route: &[u8], communities: &[u8]) -> u8;
+    /// Makes this the fresh table of an identifier. For a reserved one: 4, and the empty table of the all-zero one.
+    fn fresh(&mut self, esi: &[u8]) -> u8;
+
+    fn announce(&mut self, route: &[u8], communities: &[u8]) -> Verdict;
 
     fn withdraw(&mut self, address: u32) -> u8;
 
@@ -49,9 +69,6 @@ pub trait Segment: Sized {
 
     fn returning(&self, address: u32, algorithm: u8, preference: u16, dp: bool) -> Sent;
 
-    /// The digest of a tag on this segment.
-    fn digest(&self, tag: u32) -> u32;
-
-    /// How many routes are present.
-    fn count(&self) -> usize;
+    /// The digest of a tag on the segment of an identifier.
+    fn digest(tag: u32, esi: &[u8; 10]) -> u32;
 }

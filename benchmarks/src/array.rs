@@ -1,13 +1,16 @@
 //! Baseline (a): sorted arrays, updated in place. A route is an address and a word of attributes, each in an array of its own, so that a loop over one
-//! of them takes several routes at once. Unused addresses are all ones, so that a search needs no count and halves the range six times without a
-//! branch. Shifts are block moves. Loops over the routes are without branches, for the compiler to vectorize. An address of the ready list is looked for
-//! where a hint says, and else searched for. Nothing that an election derives is kept between calls.
+//! of them takes several routes at once. Unused addresses are all ones, so that halvings may go past the end. A lookup halves its range without a
+//! branch, as often as the number of routes asks for, and compares at most seven entries of 64 (document 02, M-104). An address of the ready list is
+//! first looked for behind the one before it, which is one of the seven. Shifts are block moves. Loops over the routes are without branches, for the
+//! compiler to vectorize. Nothing that an election derives is kept between calls.
 
-use crate::answer::{Answer, Segment, Sent};
+use crate::answer::{Answer, Segment, Sent, Verdict};
 use crate::octets::{self, Election, MAX_READY, MAX_ROUTES};
 
 const UNUSED: u32 = u32::MAX;
-const CLASSES: usize = 1024;
+const LAST: usize = MAX_ROUTES - 1;
+/// So many words and fewer are moved one by one, more as a block.
+const FEW: usize = 4;
 
 pub struct Table {
     esi: [u8; 10],
@@ -52,37 +55,115 @@ impl Table {
         (&self.addresses[..count], &self.attributes[..count])
     }
 
-    /// Where the address stands, or the place at which it would.
+    /// Where the address stands, or the place at which it would. Of 64 entries at most seven are compared: six halvings, and the last one.
+    #[inline(always)]
     fn find(&self, address: u32) -> Result<usize, usize> {
-        let mut place = 0;
-        for step in [32, 16, 8, 4, 2, 1] {
-            place += step * usize::from(self.addresses[(place + step - 1) % MAX_ROUTES] < address);
+        let mut place = match levels(self.count) {
+            0 => 0,
+            1 => self.halved::<1>(0, address),
+            2 => self.halved::<2>(0, address),
+            3 => self.halved::<3>(0, address),
+            4 => self.halved::<4>(0, address),
+            5 => self.halved::<5>(0, address),
+            _ => self.halved::<6>(0, address),
+        };
+        if place == LAST && self.addresses[LAST] < address {
+            place = MAX_ROUTES;
         }
-        place += usize::from(self.addresses[place % MAX_ROUTES] < address);
         if place < self.count && self.addresses[place % MAX_ROUTES] == address {
             return Ok(place);
         }
         Err(place)
     }
 
-    /// The set of the places whose address is on the ready list.
-    fn ready_set(&self, ready: &[u32]) -> u64 {
-        let (addresses, _) = self.live();
-        let mut hints = [0u8; CLASSES];
-        for (place, address) in addresses.iter().enumerate() {
-            hints[*address as usize % CLASSES] = place as u8;
+    /// The first place whose address is not below the one sought, by N halvings of 2^N - 1 places from `low` on. So that they end within the array, they
+    /// may start at a lower place: all addresses before `low` are below the one sought.
+    #[inline(always)]
+    fn halved<const N: u32>(&self, low: usize, address: u32) -> usize {
+        let mut place = low.min(MAX_ROUTES + 1 - (1 << N));
+        for n in (0..N).rev() {
+            let step = 1 << n;
+            place += step * usize::from(self.addresses[(place + step - 1) % MAX_ROUTES] < address);
         }
-        let mut set = 0;
-        for address in ready {
-            let hint = usize::from(hints[*address as usize % CLASSES]);
-            if addresses.get(hint) == Some(address) {
-                set |= 1 << hint;
-            } else if let Ok(place) = self.find(*address) {
-                set |= 1 << place;
+        place
+    }
+
+    /// Puts an entry before the place. Out of line, as `remove`, so that the other ways through a call save no registers.
+    #[inline(never)]
+    fn insert(&mut self, place: usize, address: u32, attributes: u32) {
+        let count = self.count;
+        if count - place > FEW {
+            self.addresses.copy_within(place..count, place + 1);
+            self.attributes.copy_within(place..count, place + 1);
+        } else {
+            for at in (place..count).rev() {
+                self.addresses[(at + 1) % MAX_ROUTES] = self.addresses[at % MAX_ROUTES];
+                self.attributes[(at + 1) % MAX_ROUTES] = self.attributes[at % MAX_ROUTES];
             }
         }
-        set
+        self.addresses[place] = address;
+        self.attributes[place] = attributes;
+        self.count = count + 1;
     }
+
+    #[inline(never)]
+    fn remove(&mut self, place: usize) {
+        let count = self.count;
+        if count - place > FEW {
+            self.addresses.copy_within(place + 1..count, place);
+            self.attributes.copy_within(place + 1..count, place);
+        } else {
+            for at in place + 1..count {
+                self.addresses[(at - 1) % MAX_ROUTES] = self.addresses[at % MAX_ROUTES];
+                self.attributes[(at - 1) % MAX_ROUTES] = self.attributes[at % MAX_ROUTES];
+            }
+        }
+        self.addresses[count - 1] = UNUSED;
+        self.attributes[count - 1] = 0;
+        self.count = count - 1;
+    }
+
+    /// The set of the places whose address is on the ready list.
+    #[inline(always)]
+    fn ready_set(&self, ready: &[u32]) -> u64 {
+        match levels(self.count) {
+            0 => 0,
+            1 => self.ready_among::<1>(ready),
+            2 => self.ready_among::<2>(ready),
+            3 => self.ready_among::<3>(ready),
+            4 => self.ready_among::<4>(ready),
+            5 => self.ready_among::<5>(ready),
+            _ => self.ready_among::<6>(ready),
+        }
+    }
+
+    /// The same, where N halvings are enough. An address is first looked for behind the one before it; what is then left has at most 63 places.
+    #[inline(never)]
+    fn ready_among<const N: u32>(&self, ready: &[u32]) -> u64 {
+        let mut set = 0;
+        let mut place = 0;
+        for address in ready {
+            place %= MAX_ROUTES;
+            let seen = self.addresses[place];
+            if seen != *address {
+                let low = if seen < *address { place + 1 } else { 0 };
+                place = self.halved::<N>(low, *address);
+                if self.addresses.get(place) != Some(address) {
+                    continue;
+                }
+            }
+            set |= 1 << place;
+            place += 1;
+        }
+        // an unused place is all ones, as an address may be too
+        set & all_places(self.count)
+    }
+}
+
+/// How many halvings a search among so many entries takes; of 64 six, which leave the last one.
+#[inline]
+fn levels(count: usize) -> u32 {
+    usize::BITS - count.leading_zeros()
 }
 
 /// The algorithm and the AC-DF bit in use.
@@ -152,47 +233,51 @@ fn all_places(n: usize) -> u64 {
 }
 
 impl Segment for Table {
-    fn fresh(esi: &[u8]) -> (u8, Table) {
-        let mut table = Table {
+    fn empty() -> Table {
+        Table {
             esi: [0; 10],
             count: 0,
             addresses: [UNUSED; MAX_ROUTES],
             attributes: [0; MAX_ROUTES],
-        };
-        if octets::is_reserved(esi) {
-            return (4, table);
         }
-        table.esi.copy_from_slice(esi);
-        (0, table)
     }
 
-    fn announce(&mut self, route: &[u8], communities: &[u8]) -> u8 {
+    #[inline]
+    fn fresh(&mut self, esi: &[u8]) -> u8 {
+        self.esi = [0; 10];
+        self.count = 0;
+        self.addresses = [UNUSED; MAX_ROUTES];
+        self.attributes = [0; MAX_ROUTES];
+        if octets::is_reserved(esi) {
+            return 4;
+        }
+        self.esi.copy_from_slice(esi);
+        0
+    }
+
+    #[inline]
+    fn announce(&mut self, route: &[u8], communities: &[u8]) -> Verdict {
         let address = match octets::check_route(route) {
             Ok(address) => address,
-            Err(number) => return number,
+            Err(refused) => return refused,
         };
         if route[10..20] != self.esi {
-            return 5;
+            return Verdict::refused(5, 0);
         }
         let election = match octets::read_communities(communities) {
             Ok(election) => election,
-            Err(number) => return number,
+            Err(refused) => return refused,
         };
         let attributes = attributes_of(election);
         match self.find(address) {
             Ok(place) => self.attributes[place % MAX_ROUTES] = attributes,
-            Err(_) if self.count >= MAX_ROUTES => return 8,
-            Err(place) => {
-                self.addresses.copy_within(place..self.count, place + 1);
-                self.attributes.copy_within(place..self.count, place + 1);
-                self.addresses[place] = address;
-                self.attributes[place] = attributes;
-                self.count += 1;
-            }
+            Err(_) if self.count >= MAX_ROUTES => return Verdict::refused(8, 0),
+            Err(place) => self.insert(place, address, attributes),
         }
-        0
+        Verdict::default()
     }
 
+    #[inline]
     fn withdraw(&mut self, address: u32) -> u8 {
         if address == 0 {
             return 6;
@@ -200,14 +285,11 @@ impl Segment for Table {
         let Ok(place) = self.find(address) else {
             return 9;
         };
-        self.addresses.copy_within(place + 1..self.count, place);
-        self.attributes.copy_within(place + 1..self.count, place);
-        self.count -= 1;
-        self.addresses[self.count] = UNUSED;
-        self.attributes[self.count] = 0;
+        self.remove(place);
         0
     }
 
+    #[inline]
     fn elect(&self, tag: u32, ready: &[u32]) -> Answer {
         if tag == 0 || tag == u32::MAX {
             return Answer::refused(10);
@@ -248,6 +330,7 @@ impl Segment for Table {
         }
     }
 
+    #[inline]
     fn returning(&self, address: u32, algorithm: u8, preference: u16, dp: bool) -> Sent {
         if algorithm != 2 && algorithm != 3 {
             return Sent::refused(15);
@@ -274,7 +357,7 @@ impl Segment for Table {
         if (0..addresses.len()).fold(false, |any, place| any | differs(place)) {
             return own;
         }
-        let full = others.count_ones() as usize == addresses.len();
+        let full = others == all_places(addresses.len());
         let place = if algorithm == 2 {
             best_narrow(attributes, others, full, higher)
         } else {
@@ -296,11 +379,8 @@ impl Segment for Table {
         }
     }
 
-    fn digest(&self, tag: u32) -> u32 {
-        octets::digest(tag, &self.esi)
-    }
-
-    fn count(&self) -> usize {
-        self.count
+    #[inline]
+    fn digest(tag: u32, esi: &[u8; 10]) -> u32 {
+        octets::digest(tag, esi)
     }
 }

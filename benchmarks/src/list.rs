@@ -2,7 +2,7 @@
 //! the head; a new route allocates a node and a withdrawal frees one; an election is one walk over all nodes, and with AC-DF each node's address is
 //! looked for along the ready list.
 
-use crate::answer::{Answer, Segment, Sent};
+use crate::answer::{Answer, Segment, Sent, Verdict};
 use crate::octets::{self, Election, MAX_READY, MAX_ROUTES};
 use std::ptr;
 
@@ -119,45 +119,52 @@ fn preferred(lowest: bool, challenger: &Election, holder: &Election) -> bool {
 }
 
 impl Segment for List {
-    fn fresh(esi: &[u8]) -> (u8, List) {
-        let mut list = List {
+    fn empty() -> List {
+        List {
             esi: [0; 10],
             count: 0,
             head: ptr::null_mut(),
             tail: ptr::null_mut(),
-        };
-        if octets::is_reserved(esi) {
-            return (4, list);
         }
-        list.esi.copy_from_slice(esi);
-        (0, list)
     }
 
-    fn announce(&mut self, route: &[u8], communities: &[u8]) -> u8 {
+    #[inline]
+    fn fresh(&mut self, esi: &[u8]) -> u8 {
+        *self = List::empty();
+        if octets::is_reserved(esi) {
+            return 4;
+        }
+        self.esi.copy_from_slice(esi);
+        0
+    }
+
+    #[inline]
+    fn announce(&mut self, route: &[u8], communities: &[u8]) -> Verdict {
         let address = match octets::check_route(route) {
             Ok(address) => address,
-            Err(number) => return number,
+            Err(refused) => return refused,
         };
         if route[10..20] != self.esi {
-            return 5;
+            return Verdict::refused(5, 0);
         }
         let election = match octets::read_communities(communities) {
             Ok(election) => election,
-            Err(number) => return number,
+            Err(refused) => return refused,
         };
         let node = self.at_or_after(address);
         // SAFETY: as in `at_or_after`.
         if !node.is_null() && unsafe { (*node).address } == address {
             unsafe { (*node).election = election };
-            return 0;
+            return Verdict::default();
         }
         if self.count >= MAX_ROUTES {
-            return 8;
+            return Verdict::refused(8, 0);
         }
         self.link_before(node, address, election);
-        0
+        Verdict::default()
     }
 
+    #[inline]
     fn withdraw(&mut self, address: u32) -> u8 {
         if address == 0 {
             return 6;
@@ -170,6 +177,7 @@ impl Segment for List {
         0
     }
 
+    #[inline]
     fn elect(&self, tag: u32, ready: &[u32]) -> Answer {
         if tag == 0 || tag == u32::MAX {
             return Answer::refused(10);
@@ -248,6 +256,7 @@ impl Segment for List {
         }
     }
 
+    #[inline]
     fn returning(&self, address: u32, algorithm: u8, preference: u16, dp: bool) -> Sent {
         if algorithm != 2 && algorithm != 3 {
             return Sent::refused(15);
@@ -294,11 +303,8 @@ impl Segment for List {
         }
     }
 
-    fn digest(&self, tag: u32) -> u32 {
-        octets::digest(tag, &self.esi)
-    }
-
-    fn count(&self) -> usize {
-        self.count
+    #[inline]
+    fn digest(tag: u32, esi: &[u8; 10]) -> u32 {
+        octets::digest(tag, esi)
     }
 }

@@ -1,6 +1,8 @@
 //! What both baselines read from octets in the same way: the route's checks, the list of communities, the digest and the weight.
 //! The CRC goes octet by octet through a static table of 256 entries, in both baselines.
 
+use crate::answer::Verdict;
+
 pub const MAX_ROUTES: usize = 64;
 pub const MAX_READY: usize = 64;
 
@@ -23,36 +25,39 @@ pub fn is_reserved(esi: &[u8]) -> bool {
     esi.len() != 10 || esi == [0x00; 10] || esi == [0xFF; 10]
 }
 
-/// The originator of a route, or the number of the first check that refuses it.
+/// The originator of a route, or the first check that refuses it: its number and its place.
 #[inline]
-pub fn check_route(s: &[u8]) -> Result<u32, u8> {
+pub fn check_route(s: &[u8]) -> Result<u32, Verdict> {
     if s.len() < 21 {
-        return Err(1);
+        return Err(Verdict::refused(1, s.len()));
     }
     if s[0] != 4 {
-        return Err(2);
+        return Err(Verdict::refused(2, 0));
     }
     if s[20] != 32 {
-        return Err(3);
+        return Err(Verdict::refused(3, 20));
     }
-    if s.len() != ROUTE_LENGTH || s[1] != 23 {
-        return Err(1);
+    if s.len() != ROUTE_LENGTH {
+        return Err(Verdict::refused(1, s.len()));
+    }
+    if s[1] != 23 {
+        return Err(Verdict::refused(1, 1));
     }
     if is_reserved(&s[10..20]) {
-        return Err(4);
+        return Err(Verdict::refused(4, 10));
     }
     let address = u32::from_be_bytes([s[21], s[22], s[23], s[24]]);
     if address == 0 {
-        return Err(6);
+        return Err(Verdict::refused(6, 21));
     }
     Ok(address)
 }
 
-/// What a list of communities says, or 7: the election community is read, and several count as none.
+/// What a list of communities says, or the refusal 7: the election community is read, and several count as none.
 #[inline]
-pub fn read_communities(list: &[u8]) -> Result<Election, u8> {
+pub fn read_communities(list: &[u8]) -> Result<Election, Verdict> {
     if list.len() > MAX_COMMUNITIES || !list.len().is_multiple_of(8) {
-        return Err(7);
+        return Err(Verdict::refused(7, 0));
     }
     let mut elections = list
         .chunks_exact(8)

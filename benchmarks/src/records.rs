@@ -16,7 +16,10 @@ const LONGEST_LINE: usize = 40;
 pub fn run<T: Segment>(input: &mut impl Read, output: &mut impl Write) -> io::Result<()> {
     let mut bench: Bench<T> = Bench {
         table: None,
-        lines: Vec::with_capacity(BLOCK + LONGEST_LINE),
+        lines: Lines {
+            octets: vec![0; BLOCK + LONGEST_LINE],
+            filled: 0,
+        },
     };
     let mut buffer = vec![0; LONGEST_RECORD + BLOCK];
     let mut held = 0;
@@ -27,17 +30,16 @@ pub fn run<T: Segment>(input: &mut impl Read, output: &mut impl Write) -> io::Re
             if held != 0 {
                 bench.bad();
             }
-            return output.write_all(&bench.lines);
+            return bench.lines.write(output);
         }
         let mut at = 0;
         while let Some(record) = whole_record(&buffer[at..end]) {
             at += record.len();
             if !bench.take(record) {
-                return output.write_all(&bench.lines);
+                return bench.lines.write(output);
             }
-            if bench.lines.len() >= BLOCK {
-                output.write_all(&bench.lines)?;
-                bench.lines.clear();
+            if bench.lines.filled >= BLOCK {
+                bench.lines.write(output)?;
             }
         }
         buffer.copy_within(at..end, 0);
@@ -58,7 +60,7 @@ fn whole_record(octets: &[u8]) -> Option<&[u8]> {
 
 struct Bench<T> {
     table: Option<T>,
-    lines: Vec<u8>,
+    lines: Lines,
 }
 
 impl<T: Segment> Bench<T> {
@@ -73,8 +75,8 @@ impl<T: Segment> Bench<T> {
         };
         match record[2] {
             1 if octets.len() >= 25 => {
-                let number = table.announce(&octets[..25], &octets[25..]);
-                self.placed_line(b'a', number, route_place(number));
+                let told = table.announce(&octets[..25], &octets[25..]);
+                self.placed_line(b'a', told.number, told.place as u8);
                 true
             }
             2 if octets.len() == 4 => {
@@ -93,16 +95,14 @@ impl<T: Segment> Bench<T> {
                     self.line(b'q', answer.number);
                     return true;
                 }
-                self.lines.extend_from_slice(b"q 0 ");
-                for (place, octet) in answer.address.to_be_bytes().into_iter().enumerate() {
-                    if place > 0 {
-                        self.lines.push(b'.');
-                    }
-                    self.decimal(octet);
-                }
-                self.lines.push(b' ');
-                self.decimal(answer.n as u8);
-                self.lines.push(b'\n');
+                let [a, b, c, d] = answer.address.to_be_bytes();
+                self.lines.start(b'q');
+                self.lines.number(0, b' ');
+                self.lines.number(a, b'.');
+                self.lines.number(b, b'.');
+                self.lines.number(c, b'.');
+                self.lines.number(d, b' ');
+                self.lines.number(answer.n as u8, b'\n');
                 true
             }
             _ => self.bad(),
@@ -118,7 +118,8 @@ impl<T: Segment> Bench<T> {
             self.placed_line(b'p', 13, text_place(text));
             return false;
         };
-        let (number, table) = T::fresh(&esi);
+        let mut table = T::empty();
+        let number = table.fresh(&esi);
         self.placed_line(b'p', number, 0);
         self.table = Some(table);
         number == 0
@@ -130,46 +131,74 @@ impl<T: Segment> Bench<T> {
     }
 
     fn line(&mut self, letter: u8, number: u8) {
-        self.lines.extend_from_slice(&[letter, b' ']);
-        self.decimal(number);
-        self.lines.push(b'\n');
+        self.lines.start(letter);
+        self.lines.number(number, b'\n');
     }
 
     /// A line that ends with a place after the numbers that have one.
     fn placed_line(&mut self, letter: u8, number: u8, place: u8) {
-        self.line(letter, number);
-        if matches!(number, 1..=4 | 6 | 13) {
-            self.lines.pop();
-            self.lines.push(b' ');
-            self.decimal(place);
-            self.lines.push(b'\n');
+        if !matches!(number, 1..=4 | 6 | 13) {
+            return self.line(letter, number);
         }
+        self.lines.start(letter);
+        self.lines.number(number, b' ');
+        self.lines.number(place, b'\n');
+    }
+}
+
+/// The lines that are not written out yet: a buffer with room for one more line, and how much of it is filled.
+struct Lines {
+    octets: Vec<u8>,
+    filled: usize,
+}
+
+impl Lines {
+    #[inline]
+    fn start(&mut self, letter: u8) {
+        self.octets[self.filled..][..2].copy_from_slice(&[letter, b' ']);
+        self.filled += 2;
     }
 
-    fn decimal(&mut self, number: u8) {
-        if number >= 100 {
-            self.lines.push(b'0' + number / 100);
-        }
-        if number >= 10 {
-            self.lines.push(b'0' + number / 10 % 10);
-        }
-        self.lines.push(b'0' + number % 10);
+    /// A number, and the character behind it.
+    #[inline]
+    fn number(&mut self, number: u8, end: u8) {
+        let digits = &DECIMALS[usize::from(number)];
+        let length = usize::from(digits[3]);
+        let room = &mut self.octets[self.filled..][..4];
+        room.copy_from_slice(digits);
+        room[length % 4] = end;
+        self.filled += length + 1;
     }
+
+    fn write(&mut self, output: &mut impl Write) -> io::Result<()> {
+        output.write_all(&self.octets[..self.filled])?;
+        self.filled = 0;
+        Ok(())
+    }
+}
+
+/// The digits of each number, and how many they are.
+static DECIMALS: [[u8; 4]; 256] = decimals();
+
+const fn decimals() -> [[u8; 4]; 256] {
+    let mut table = [[0; 4]; 256];
+    let mut number = 0;
+    while number < 256 {
+        let hundreds = b'0' + (number / 100) as u8;
+        let tens = b'0' + (number / 10 % 10) as u8;
+        let ones = b'0' + (number % 10) as u8;
+        table[number] = match number {
+            0..10 => [ones, 0, 0, 1],
+            10..100 => [tens, ones, 0, 2],
+            _ => [hundreds, tens, ones, 3],
+        };
+        number += 1;
+    }
+    table
 }
 
 fn word(octets: &[u8]) -> u32 {
     u32::from_be_bytes([octets[0], octets[1], octets[2], octets[3]])
-}
-
-/// Where a route of 25 octets is wrong, by its number: the length octet, the type, the address length, the identifier or the address.
-fn route_place(number: u8) -> u8 {
-    match number {
-        1 => 1,
-        3 => 20,
-        4 => 10,
-        6 => 21,
-        _ => 0,
-    }
 }
 
 /// Where a text is wrong that says no identifier: its first wrong character, or where one is missing or too many.
@@ -204,17 +233,24 @@ fn digit(character: u8) -> Option<u8> {
 
 /// A run of records, the first of them the identifier's text: of ten later ones about five are queries, three announcements and two withdrawals.
 /// Each thousand has an algorithm and an AC-DF bit of its own, so that a table agrees for a while, and then again after a change; the addresses
-/// are 72, so that a table is now and then full.
+/// are 72, so that a table is now and then full. Ready lists rise, from some address on and round; in one thousand of four they are scattered.
 pub fn generated(records: usize, seed: u64) -> Vec<u8> {
     let mut random = Random(seed);
     let addresses = workload::addresses(72, &mut random);
+    let mut rising = addresses.clone();
+    rising.sort();
     let mut octets = Vec::new();
     put(&mut octets, 0, b"00:11:22:33:44:55:66:77:88:99");
-    let (mut algorithm, mut ac_df) = (0, false);
+    let (mut algorithm, mut ac_df, mut listed) = (0, false, &rising);
     for number in 1..records {
         if number % 1000 == 1 {
             algorithm = random.below(4) as u8;
             ac_df = random.one_in(2);
+            listed = if random.one_in(4) {
+                &addresses
+            } else {
+                &rising
+            };
         }
         let address = addresses[random.below(addresses.len())];
         match random.below(10) {
@@ -234,9 +270,9 @@ pub fn generated(records: usize, seed: u64) -> Vec<u8> {
                 let tag = 1 + random.below(4094) as u32;
                 let mut payload = tag.to_be_bytes().to_vec();
                 if ac_df {
-                    let from = random.below(addresses.len());
+                    let from = random.below(listed.len());
                     for place in 0..random.below(62) {
-                        let ready = addresses[(from + place) % addresses.len()];
+                        let ready = listed[(from + place) % listed.len()];
                         payload.extend(ready.to_be_bytes());
                     }
                 }

@@ -4,6 +4,14 @@ use crate::random::Random;
 
 pub const ESI: [u8; 10] = [0x00, 0x11, 0x22, 0x33, 0x44, 0x55, 0x66, 0x77, 0x88, 0x99];
 
+/// An announcement: a route with one community, and the address that the route has. They are vectors, so that no side knows their lengths beforehand.
+#[derive(Clone)]
+pub struct Run {
+    pub route: Vec<u8>,
+    pub communities: Vec<u8>,
+    pub address: u32,
+}
+
 /// The 25 octets of a route.
 pub fn route(esi: &[u8; 10], address: u32) -> [u8; 25] {
     let mut octets = [0; 25];
@@ -34,23 +42,18 @@ pub fn addresses(n: usize, random: &mut Random) -> Vec<u32> {
     addresses
 }
 
-/// The runs of some addresses on a segment, all under one algorithm and one AC-DF bit; preferences and DP bits differ.
+/// The announcements of some addresses on a segment, all under one algorithm and one AC-DF bit; preferences and DP bits differ.
 pub fn runs(
     esi: &[u8; 10],
     addresses: &[u32],
     algorithm: u8,
     ac_df: bool,
     random: &mut Random,
-) -> Vec<u8> {
-    let mut octets = Vec::new();
-    for address in addresses {
-        octets.extend(route(esi, *address));
-        octets.extend(community(
-            algorithm,
-            ac_df,
-            random.one_in(2),
-            random.word() as u16,
-        ));
-    }
-    octets
+) -> Vec<Run> {
+    let run = |address: &u32| Run {
+        route: route(esi, *address).to_vec(),
+        communities: community(algorithm, ac_df, random.one_in(2), random.word() as u16).to_vec(),
+        address: *address,
+    };
+    addresses.iter().map(run).collect()
 }

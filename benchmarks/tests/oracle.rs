@@ -1,11 +1,12 @@
-//! Both baselines against the reference of tests/: the same random calls, the same answers, call by call.
+//! Every side against the reference of tests/: the same random calls, the same answers, call by call.
 
-use benchmarks::answer::{Answer, Segment, Sent};
+use benchmarks::answer::{Answer, Segment, Sent, Verdict};
 use benchmarks::random::Random;
-use benchmarks::{array, list, loops, records, workload};
+use benchmarks::{array, list, proved, records, workload};
 use reference::election;
 use reference::refusal::answer_number;
 use reference::returning::{advertise, Advertised};
+use reference::route;
 use reference::table::Table;
 
 const SEEDS: u64 = 400;
@@ -148,17 +149,24 @@ fn same_as_the_reference<T: Segment>() {
     let (mut elections, mut full) = (0, 0);
     for seed in 0..SEEDS {
         let mut pool = Pool::new(seed);
-        let (number, mut ours) = T::fresh(&pool.esi);
+        let mut ours = T::empty();
         let (answer, mut theirs) = Table::fresh(&pool.esi);
-        assert_eq!(number, answer_number(&answer), "fresh, seed {seed}");
+        assert_eq!(
+            ours.fresh(&pool.esi),
+            answer_number(&answer),
+            "fresh, seed {seed}"
+        );
         for call in 0..CALLS {
             let place = format!("seed {seed}, call {call}");
             match pool.random.below(8) {
                 0..=3 => {
                     let (route, communities) = (pool.route(), pool.communities());
-                    let number = answer_number(&theirs.announce(&route, &communities));
-                    assert_eq!(ours.announce(&route, &communities), number, "{place}");
-                    full += usize::from(number == 8);
+                    let told = Verdict {
+                        number: answer_number(&theirs.announce(&route, &communities)),
+                        place: route::place(&route),
+                    };
+                    assert_eq!(ours.announce(&route, &communities), told, "{place}");
+                    full += usize::from(told.number == 8);
                 }
                 4 => {
                     let address = pool.address();
@@ -179,16 +187,26 @@ fn same_as_the_reference<T: Segment>() {
                     assert_eq!(own, sent, "{place}");
                 }
             }
-            assert_eq!(ours.count(), theirs.entries().len(), "{place}");
+            let all: Vec<u32> = theirs.entries().iter().map(|entry| entry.address).collect();
+            assert_eq!(
+                ours.elect(1, &all),
+                elect(&theirs, 1, &all),
+                "after {place}"
+            );
         }
         for _ in 0..20 {
             let tag = pool.tag();
             let digest = reference::hrw::digest(tag, theirs.esi());
-            assert_eq!(ours.digest(tag), digest, "digest, seed {seed}");
+            assert_eq!(T::digest(tag, theirs.esi()), digest, "digest, seed {seed}");
         }
     }
     assert!(elections > 10_000, "only {elections} accepted elections");
     assert!(full > 100, "only {full} announcements to a full table");
+}
+
+#[test]
+fn proved_is_right() {
+    same_as_the_reference::<proved::Table>();
 }
 
 #[test]
@@ -201,18 +219,20 @@ fn list_is_right() {
     same_as_the_reference::<list::List>();
 }
 
-/// Two elections under algorithm 1 that tie: the lower address wins in both baselines.
+/// Two routes that tie under algorithm 1: the lower address wins on every side.
 #[test]
 fn ties_go_to_the_lower_address() {
     fn winner<T: Segment>() -> u32 {
-        let (_, mut table) = T::fresh(&workload::ESI);
+        let mut table = T::empty();
+        assert_eq!(table.fresh(&workload::ESI), 0);
         for address in [0x8A00_0001, 0x0A00_0001] {
             let route = workload::route(&workload::ESI, address);
             let community = workload::community(1, false, false, 0);
-            assert_eq!(table.announce(&route, &community), 0);
+            assert_eq!(table.announce(&route, &community), Verdict::default());
         }
         table.elect(7, &[]).address
     }
+    assert_eq!(winner::<proved::Table>(), 0x0A00_0001);
     assert_eq!(winner::<array::Table>(), 0x0A00_0001);
     assert_eq!(winner::<list::List>(), 0x0A00_0001);
 }
@@ -243,25 +263,5 @@ fn bench_runs_agree() {
         records::run::<list::List>(&mut input.as_slice(), &mut list).unwrap();
         assert_eq!(array, expected);
         assert_eq!(list, expected);
-    }
-}
-
-/// The loops answer a checksum that depends on the rounds' answers, and the same over both baselines.
-#[test]
-fn loops_agree() {
-    let mut random = Random(5);
-    let addresses = workload::addresses(64, &mut random);
-    for algorithm in 0..4 {
-        let runs = workload::runs(&workload::ESI, &addresses, algorithm, true, &mut random);
-        let mut seen = Vec::new();
-        for rounds in 0..200 {
-            let sum = loops::elect::<array::Table>(&workload::ESI, &runs, &addresses[..40], rounds);
-            let twin = loops::elect::<list::List>(&workload::ESI, &runs, &addresses[..40], rounds);
-            assert_eq!(sum, twin);
-            seen.push(sum);
-        }
-        seen.sort();
-        seen.dedup();
-        assert!(seen.len() > 1, "algorithm {algorithm}: one checksum only");
     }
 }

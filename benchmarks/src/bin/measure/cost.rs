@@ -1,10 +1,10 @@
-//! What a call costs: the cost of 2K rounds less that of K rounds, over K. So what a loop does before its rounds does not count.
+//! What a call costs: the cost of 2K rounds less that of K rounds, over K. So what comes before the rounds does not count.
 //!
 //! Instructions are counted by valgrind's callgrind, which writes its counters out and clears them at each call of `benchmarks_mark`.
 //! Times are the least of several, the sides taking turns.
 
 use crate::rows::Row;
-use crate::sides::{Side, SIDES};
+use crate::sides::SIDES;
 use std::fs;
 use std::hint::black_box;
 use std::io;
@@ -17,12 +17,17 @@ const COUNTED: u32 = 192;
 const TIMED: u32 = 100 * 192;
 const REPEATS: usize = 15;
 
-/// The cost of one call on each side, in the order of `SIDES`; none where a side is not there.
-pub type Costs = [Option<f64>; 3];
+/// The cost of one call on each side, in the order of `SIDES`.
+pub type Costs = [f64; SIDES.len()];
 
 /// Rounds of which each does many calls are fewer.
 fn rounds(row: &Row, rounds: u32) -> u32 {
     (rounds / row.calls_in_round as u32).max(1)
+}
+
+/// The cost of a call by those of K and of 2K rounds.
+fn of_a_call(row: &Row, k: u32, once: f64, twice: f64) -> f64 {
+    (twice - once) / (f64::from(k) * row.calls_in_round as f64)
 }
 
 #[no_mangle]
@@ -35,9 +40,9 @@ pub extern "C" fn benchmarks_mark() {
 pub fn be_counted(rows: &[Row]) {
     benchmarks_mark();
     for row in rows {
-        for side in SIDES.into_iter().filter(|side| side.is_there()) {
+        for side in &SIDES {
             for factor in [1, 2] {
-                black_box(row.rounds(side, factor * rounds(row, COUNTED)));
+                (side.run)(&row.work, factor * rounds(row, COUNTED));
                 benchmarks_mark();
             }
         }
@@ -54,31 +59,26 @@ pub fn counts(folder: &Path, rows: &[Row]) -> io::Result<Vec<Costs>> {
     succeed(command.arg(std::env::current_exe()?).arg("counted"))?;
 
     // the first part is what ran before the first mark
-    let mut part = 1;
-    let mut next = || {
-        part += 1;
-        total(&out.join(format!("out.{part}")))
-    };
+    let mut parts = (2..).map(|part| total(&out.join(format!("out.{part}"))));
+    let mut next = || parts.next().expect("no last part");
     let mut all = Vec::new();
     for row in rows {
-        let mut costs = Costs::default();
-        for (place, side) in SIDES.into_iter().enumerate() {
-            if !side.is_there() {
-                continue;
-            }
-            let (once, twice) = (next()?, next()?);
-            let calls = f64::from(rounds(row, COUNTED)) * row.calls_in_round as f64;
-            costs[place] = Some((twice - once) / calls);
+        let mut costs = [0.0; SIDES.len()];
+        for cost in &mut costs {
+            *cost = of_a_call(row, rounds(row, COUNTED), next()?, next()?);
         }
         all.push(costs);
     }
     Ok(all)
 }
 
-/// A command that counts the instructions of a program into a file.
+/// A command that counts the instructions of a program into a file. The environment is always the same, since it moves the stack, and the C library's
+/// block moves go by where a block lies.
 pub fn callgrind(out: &Path) -> Command {
     let mut command = Command::new("valgrind");
     command
+        .env_clear()
+        .env("PATH", "/usr/local/bin:/usr/bin:/bin")
         .arg("--tool=callgrind")
         .arg("--quiet")
         .arg(format!("--callgrind-out-file={}", out.display()))
@@ -110,25 +110,15 @@ pub fn times(rows: &[Row]) -> Vec<Costs> {
 
 fn time(row: &Row) -> Costs {
     let k = rounds(row, TIMED);
-    let mut least = [[f64::INFINITY; 2]; 3];
+    let mut least = [[f64::INFINITY; 2]; SIDES.len()];
     for _ in 0..REPEATS {
-        for (place, side) in SIDES.into_iter().enumerate() {
-            if !side.is_there() {
-                continue;
-            }
-            for (factor, least) in [1, 2].into_iter().zip(&mut least[place]) {
-                *least = least.min(nanoseconds(row, side, factor * k));
+        for (side, least) in SIDES.iter().zip(&mut least) {
+            for (factor, least) in [1, 2].into_iter().zip(least) {
+                let start = Instant::now();
+                (side.run)(&row.work, factor * k);
+                *least = least.min(start.elapsed().as_nanos() as f64);
             }
         }
     }
-    least.map(|[once, twice]| {
-        once.is_finite()
-            .then(|| (twice - once) / (f64::from(k) * row.calls_in_round as f64))
-    })
-}
-
-fn nanoseconds(row: &Row, side: Side, rounds: u32) -> f64 {
-    let start = Instant::now();
-    black_box(row.rounds(side, rounds));
-    start.elapsed().as_nanos() as f64
+    least.map(|[once, twice]| of_a_call(row, k, once, twice))
 }

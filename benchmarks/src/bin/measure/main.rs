@@ -1,10 +1,11 @@
-//! The harness: `measure table DIR [PROGRAM]` prints the table; `measure counted` is what it runs below callgrind.
+//! The harness: `measure instructions DIR [PROGRAM]` counts and prints; `measure times DIR [PROGRAM]` also takes the times, which says something
+//! only where nothing else runs; `measure counted` is what it runs below callgrind. DIR takes what is generated.
 //!
-//! - `sides`: the three sides of a comparison, the proved one linked in from the archive of the crate `meter`
-//! - `rows`: the rows of the table, each a loop over a workload
-//! - `cost`: instructions and time of a loop's rounds, by the difference of 2K and K rounds
-//! - `programs`: the bench program's row
-//! - `print`: the table
+//! - `sides`: the three sides of a comparison
+//! - `rows`: the rows of the table, each rounds of calls
+//! - `cost`: instructions and time of a call, by the difference of 2K and K rounds
+//! - `programs`: the bench program's rows
+//! - `print`: the tables
 
 mod cost;
 mod print;
@@ -18,25 +19,29 @@ use std::path::Path;
 fn main() -> io::Result<()> {
     let words: Vec<String> = std::env::args().collect();
     let words: Vec<&str> = words.iter().map(String::as_str).collect();
-    match words[1..] {
-        ["counted"] => {
-            cost::be_counted(&rows::all());
-            Ok(())
-        }
-        ["table", folder] => table(Path::new(folder), None),
-        ["table", folder, program] => table(Path::new(folder), Some(Path::new(program))),
-        _ => Err(io::Error::other("measure: table DIR [PROGRAM], or counted")),
-    }
-}
-
-/// Checks that all sides answer alike, then counts, times and prints. DIR takes what is generated.
-fn table(folder: &Path, program: Option<&Path>) -> io::Result<()> {
     let rows = rows::all();
+    let (timed, folder, program) = match words[1..] {
+        ["counted"] => {
+            cost::be_counted(&rows);
+            return Ok(());
+        }
+        ["instructions", folder] => (false, folder, None),
+        ["instructions", folder, program] => (false, folder, Some(Path::new(program))),
+        ["times", folder] => (true, folder, None),
+        ["times", folder, program] => (true, folder, Some(Path::new(program))),
+        _ => {
+            return Err(io::Error::other(
+                "measure: instructions or times, DIR [PROGRAM]",
+            ))
+        }
+    };
+    let folder = Path::new(folder);
+
     rows::check(&rows);
-    let counts = cost::counts(folder, &rows)?;
-    let times = cost::times(&rows);
-    print::calls(&rows, &counts, &times);
-    let programs = programs::measured(folder, program)?;
-    print::programs(&programs);
+    print::counts(&rows, &cost::counts(folder, &rows)?);
+    if timed {
+        print::times(&rows, &cost::times(&rows));
+    }
+    print::programs(&programs::measured(folder, program, timed)?);
     Ok(())
 }

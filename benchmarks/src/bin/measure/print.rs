@@ -1,85 +1,98 @@
-//! The table, in Markdown: nanoseconds and instructions of a call on each side, and our cost as a ratio of each baseline's.
+//! The tables, in Markdown: what a call costs on each side, ours as a ratio of each other side's, and whether the target is met.
 
 use crate::cost::Costs;
 use crate::programs::Program;
 use crate::rows::{Row, Target};
+use crate::sides::SIDES;
 
-pub fn calls(rows: &[Row], counts: &[Costs], times: &[Costs]) {
-    println!("| Call | Routes | Ours ns | (a) ns | (b) ns | Ours ins | (a) ins | (b) ins | Ours/(a) time, ins | Ours/(b) time, ins | Target | Time | Ins |");
-    println!("|---|--:|--:|--:|--:|--:|--:|--:|--:|--:|---|---|---|");
-    for ((row, count), time) in rows.iter().zip(counts).zip(times) {
-        let routes = match row.routes {
-            0 => String::new(),
-            n => n.to_string(),
-        };
-        let numbers: Vec<String> = time
-            .iter()
-            .map(|cost| shown(*cost, 1))
-            .chain(count.iter().map(|cost| shown(*cost, 0)))
-            .collect();
-        let ratios: Vec<String> = [1, 2]
-            .map(|side| {
-                let (time, count) = (ratio(time, side), ratio(count, side));
-                format!("{}, {}", shown(time, 2), shown(count, 2))
-            })
-            .to_vec();
-        println!(
-            "| {} | {routes} | {} | {} | {} | {} | {} |",
-            row.name,
-            numbers.join(" | "),
-            ratios.join(" | "),
-            row.target.map(said).unwrap_or_default(),
-            verdict(row.target, time),
-            verdict(row.target, count),
-        );
+/// A table of instructions, with the targets.
+pub fn counts(rows: &[Row], counts: &[Costs]) {
+    heading(&["Call", "Routes"], "ins", &["Target", ""]);
+    for (row, costs) in rows.iter().zip(counts) {
+        let mut cells = start(row);
+        cells.extend(numbers(costs, 0));
+        cells.push(said(&row.target));
+        cells.push(verdict(&row.target, costs).into());
+        line(&cells);
     }
+    let met = |(row, costs): &(&Row, &Costs)| verdict(&row.target, costs) == "met";
+    let all_met = rows.iter().zip(counts).filter(met).count();
+    println!("\nTargets met: {all_met} of {}.\n", rows.len());
+}
+
+/// A table of times.
+pub fn times(rows: &[Row], times: &[Costs]) {
+    heading(&["Call", "Routes"], "ns", &[]);
+    for (row, costs) in rows.iter().zip(times) {
+        let mut cells = start(row);
+        cells.extend(numbers(costs, 1));
+        line(&cells);
+    }
+    println!();
 }
 
 pub fn programs(programs: &[Program]) {
-    println!();
-    println!(
-        "| Bench program, a million records | Records/s | Ins/record | Speed, to the reference's |"
-    );
-    println!("|---|--:|--:|--:|");
-    let reference = programs.iter().find(|program| program.name == "reference");
+    println!("| Bench program | Ins for a record | Ours of it | Target | | Records/s |");
+    println!("|---|--:|--:|---|---|--:|");
+    let ours = programs.iter().find(|program| program.name == "ours");
     for program in programs {
-        let to = reference.map(|reference| program.speed / reference.speed);
-        println!(
-            "| {} | {:.0} | {:.0} | {} |",
-            program.name,
-            program.speed,
-            program.instructions,
-            shown(to, 2)
-        );
+        let ratio = ours.map(|ours| ours.instructions / program.instructions);
+        let target = program.target.filter(|_| ratio.is_some());
+        line(&[
+            program.name.into(),
+            format!("{:.0}", program.instructions),
+            ratio.map_or(String::new(), |ratio| format!("{ratio:.2}")),
+            target.map_or(String::new(), |most| format!("{most:.2}")),
+            match (ratio, target) {
+                (Some(ratio), Some(most)) if ratio <= most => "met".into(),
+                (Some(_), Some(_)) => "missed".into(),
+                _ => String::new(),
+            },
+            program
+                .speed
+                .map_or(String::new(), |speed| format!("{speed:.0}")),
+        ]);
     }
 }
 
-fn shown(number: Option<f64>, places: usize) -> String {
-    match number {
-        Some(number) => format!("{number:.places$}"),
-        None => "-".into(),
-    }
+fn heading(first: &[&str], unit: &str, last: &[&str]) {
+    let mut names: Vec<String> = first.iter().map(|name| name.to_string()).collect();
+    names.extend(SIDES.iter().map(|side| format!("{} {unit}", side.name)));
+    names.extend(SIDES[1..].iter().map(|side| format!("ours/{}", side.name)));
+    names.extend(last.iter().map(|name| name.to_string()));
+    line(&names);
+    let right = first.len() - 1 + 2 * SIDES.len() - 1;
+    println!("|---|{}{}", "--:|".repeat(right), "---|".repeat(last.len()));
 }
 
-/// Our cost as a ratio of that of another side.
-fn ratio(costs: &Costs, side: usize) -> Option<f64> {
-    Some(costs[0]? / costs[side]?)
+fn line(cells: &[String]) {
+    println!("| {} |", cells.join(" | "));
 }
 
-fn said(target: Target) -> String {
-    match target.of_list {
-        Some(of_list) => format!("{:.1} (a), {of_list:.1} (b)", target.of_array),
-        None => format!("{:.1} (a)", target.of_array),
-    }
+fn start(row: &Row) -> Vec<String> {
+    let routes = row.routes.map_or(String::new(), |n| n.to_string());
+    vec![row.name.clone(), routes]
 }
 
-fn verdict(target: Option<Target>, costs: &Costs) -> &'static str {
-    let (Some(target), Some(of_array), Some(of_list)) = (target, ratio(costs, 1), ratio(costs, 2))
-    else {
-        return "";
-    };
-    let met = of_array <= target.of_array && target.of_list.is_none_or(|most| of_list <= most);
-    if met {
+/// Each side's cost, and ours to each other side's.
+fn numbers(costs: &Costs, places: usize) -> Vec<String> {
+    let costs_shown = costs.iter().map(|cost| format!("{cost:.places$}"));
+    let ratios = costs[1..]
+        .iter()
+        .map(|cost| format!("{:.2}", costs[0] / cost));
+    costs_shown.chain(ratios).collect()
+}
+
+fn said(target: &Target) -> String {
+    let parts = SIDES[1..].iter().zip(target);
+    let parts = parts.filter_map(|(side, most)| Some(format!("{:.1} {}", (*most)?, side.name)));
+    parts.collect::<Vec<_>>().join(", ")
+}
+
+fn verdict(target: &Target, costs: &Costs) -> &'static str {
+    let within =
+        |(most, cost): (&Option<f64>, &f64)| most.is_none_or(|most| costs[0] / cost <= most);
+    if target.iter().zip(&costs[1..]).all(within) {
         "met"
     } else {
         "missed"

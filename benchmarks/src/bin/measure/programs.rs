@@ -13,15 +13,16 @@ const COUNTED: usize = 20_000;
 const REPEATS: usize = 9;
 const SEED: u64 = 7;
 
-/// A program, its records per second, and its instructions for a record.
+/// A program, its instructions for a record, the most that ours may have of them, and its records per second where times are taken.
 pub struct Program {
     pub name: &'static str,
-    pub speed: f64,
     pub instructions: f64,
+    pub target: Option<f64>,
+    pub speed: Option<f64>,
 }
 
 /// Measures each program that is there, after all have printed the same.
-pub fn measured(folder: &Path, program: Option<&Path>) -> io::Result<Vec<Program>> {
+pub fn measured(folder: &Path, program: Option<&Path>, timed: bool) -> io::Result<Vec<Program>> {
     let input = generate(folder, RECORDS)?;
     let few = generate(folder, COUNTED)?;
     let more = generate(folder, 2 * COUNTED)?;
@@ -42,7 +43,7 @@ pub fn measured(folder: &Path, program: Option<&Path>) -> io::Result<Vec<Program
     assert_eq!(lines, RECORDS, "every record prints its line");
 
     let mut least = vec![f64::INFINITY; commands.len()];
-    for _ in 0..REPEATS {
+    for _ in 0..if timed { REPEATS } else { 0 } {
         for (command, least) in commands.iter().zip(&mut least) {
             let start = Instant::now();
             succeed(command.on(&input)?.stdout(Stdio::null()))?;
@@ -66,8 +67,9 @@ pub fn measured(folder: &Path, program: Option<&Path>) -> io::Result<Vec<Program
         }
         programs.push(Program {
             name: command.name,
-            speed: RECORDS as f64 / seconds,
             instructions: (counted[1] - counted[0]) / COUNTED as f64,
+            target: command.target,
+            speed: timed.then(|| RECORDS as f64 / seconds),
         });
     }
     Ok(programs)
@@ -77,6 +79,7 @@ struct Measured {
     name: &'static str,
     path: PathBuf,
     word: Option<&'static str>,
+    target: Option<f64>,
 }
 
 impl Measured {
@@ -93,26 +96,20 @@ fn commands(program: Option<&Path>) -> io::Result<Vec<Measured>> {
     let beside = own.with_file_name("baseline_bench");
     let reference = Path::new(env!("CARGO_MANIFEST_DIR"))
         .join("../tests/reference/target/release/bench_reference");
-    let mut commands = Vec::new();
-    if let Some(path) = program {
-        commands.push(Measured {
-            name: "proved",
-            path: path.to_path_buf(),
-            word: None,
-        });
-    }
-    for (name, path, word) in [
-        ("reference", &reference, None),
-        ("array (a)", &beside, Some("array")),
-        ("list (b)", &beside, Some("list")),
-    ] {
-        commands.push(Measured {
-            name,
-            path: path.clone(),
-            word,
-        });
-    }
-    Ok(commands)
+    let others = [
+        ("(a)", &beside, Some("array"), Some(1.15)),
+        ("(b)", &beside, Some("list"), None),
+        ("reference", &reference, None, None),
+    ];
+    let ours = program.map(|path| ("ours", path.to_path_buf(), None, None));
+    let others = others.map(|(name, path, word, target)| (name, path.clone(), word, target));
+    let measured = |(name, path, word, target)| Measured {
+        name,
+        path,
+        word,
+        target,
+    };
+    Ok(ours.into_iter().chain(others).map(measured).collect())
 }
 
 fn generate(folder: &Path, count: usize) -> io::Result<PathBuf> {

@@ -1,0 +1,41 @@
+//! A baseline whose calls are never inlined, as the proved calls are not: each costs one call.
+
+use crate::answer::{Answer, Segment, Sent, Verdict};
+
+pub struct Called<T>(T);
+
+impl<T: Segment> Segment for Called<T> {
+    fn empty() -> Self {
+        Called(T::empty())
+    }
+
+    #[inline(never)]
+    fn fresh(&mut self, esi: &[u8]) -> u8 {
+        self.0.fresh(esi)
+    }
+
+    #[inline(never)]
+    fn announce(&mut self, route: &[u8], communities: &[u8]) -> Verdict {
+        self.0.announce(route, communities)
+    }
+
+    #[inline(never)]
+    fn withdraw(&mut self, address: u32) -> u8 {
+        self.0.withdraw(address)
+    }
+
+    #[inline(never)]
+    fn elect(&self, tag: u32, ready: &[u32]) -> Answer {
+        self.0.elect(tag, ready)
+    }
+
+    #[inline(never)]
+    fn returning(&self, address: u32, algorithm: u8, preference: u16, dp: bool) -> Sent {
+        self.0.returning(address, algorithm, preference, dp)
+    }
+
+    #[inline(never)]
+    fn digest(tag: u32, esi: &[u8; 10]) -> u32 {
+        T::digest(tag, esi)
+    }
+}

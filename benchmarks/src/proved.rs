@@ -1,0 +1,86 @@
+//! The proved calls, as the crate `exports` hands them to C: a slice goes over as its start and its length.
+
+use crate::answer::{Answer, Segment, Sent, Verdict};
+
+const WORDS: usize = 139;
+
+/// The words of a table. Only the calls below write them, so they are always those of a table that the calls made: their premise (`Valid`).
+pub struct Table([u32; WORDS]);
+
+extern "C" {
+    fn segment_fresh(t: *mut u32, esi: *const u8, esi_length: usize) -> u8;
+    fn segment_announce(
+        t: *mut u32,
+        t_length: usize,
+        route: *const u8,
+        route_length: usize,
+        communities: *const u8,
+        communities_length: usize,
+    ) -> Verdict;
+    fn segment_withdraw(t: *mut u32, t_length: usize, address: u32) -> u8;
+    fn segment_elect(
+        t: *const u32,
+        t_length: usize,
+        tag: u32,
+        ready: *const u32,
+        ready_length: usize,
+    ) -> Answer;
+    fn segment_returning(
+        t: *const u32,
+        t_length: usize,
+        address: u32,
+        algorithm: u8,
+        preference: u16,
+        dp: bool,
+    ) -> Sent;
+    fn segment_digest(tag: u32, esi: *const u8) -> u32;
+}
+
+// SAFETY, of every call: what is lent is live for the call and has the length that goes over with it, the words are lent for writing where they are
+// written, and they are `Valid`.
+impl Segment for Table {
+    fn empty() -> Table {
+        let mut table = Table([0; WORDS]);
+        table.fresh(&[]);
+        table
+    }
+
+    #[inline]
+    fn fresh(&mut self, esi: &[u8]) -> u8 {
+        unsafe { segment_fresh(self.0.as_mut_ptr(), esi.as_ptr(), esi.len()) }
+    }
+
+    #[inline]
+    fn announce(&mut self, route: &[u8], communities: &[u8]) -> Verdict {
+        unsafe {
+            segment_announce(
+                self.0.as_mut_ptr(),
+                WORDS,
+                route.as_ptr(),
+                route.len(),
+                communities.as_ptr(),
+                communities.len(),
+            )
+        }
+    }
+
+    #[inline]
+    fn withdraw(&mut self, address: u32) -> u8 {
+        unsafe { segment_withdraw(self.0.as_mut_ptr(), WORDS, address) }
+    }
+
+    #[inline]
+    fn elect(&self, tag: u32, ready: &[u32]) -> Answer {
+        unsafe { segment_elect(self.0.as_ptr(), WORDS, tag, ready.as_ptr(), ready.len()) }
+    }
+
+    #[inline]
+    fn returning(&self, address: u32, algorithm: u8, preference: u16, dp: bool) -> Sent {
+        unsafe { segment_returning(self.0.as_ptr(), WORDS, address, algorithm, preference, dp) }
+    }
+
+    #[inline]
+    fn digest(tag: u32, esi: &[u8; 10]) -> u32 {
+        unsafe { segment_digest(tag, esi.as_ptr()) }
+    }
+}

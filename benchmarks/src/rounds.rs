@@ -1,0 +1,130 @@
+//! The rounds of calls that are counted, timed and compared, over any side. What a round is handed goes through `black_box`, and every answer goes to
+//! a hearer: one keeps them all, for the comparison of the sides; the other only sees that the compiler leaves none out.
+
+use crate::answer::Segment;
+use crate::workload::{Run, ESI};
+use std::fmt::Debug;
+use std::hint::black_box;
+
+/// What the rounds work on.
+pub enum Work {
+    /// A round: a fresh table.
+    Fresh,
+    /// A round: a fresh table takes all runs, each a new address.
+    Fill { runs: Vec<Run> },
+    /// A round: the announcement of the next of `calls`, on the table of the runs.
+    Announce { runs: Vec<Run>, calls: Vec<Run> },
+    /// A round: the next address of the runs is withdrawn, and announced again.
+    Again { runs: Vec<Run> },
+    /// A round: the withdrawal of the next of `addresses`, none of which is present.
+    Withdraw { runs: Vec<Run>, addresses: Vec<u32> },
+    /// A round: the election for the next tag, from 1 on.
+    Elect { runs: Vec<Run>, ready: Vec<u32> },
+    /// A round: what the router of the next address, from 1 on, sends when it comes back with a preference of 40,000 and DP set.
+    Returning { runs: Vec<Run>, algorithm: u8 },
+    /// A round: the digest of the next tag, from 1 on.
+    Digest,
+}
+
+pub trait Hearer {
+    fn hear(&mut self, answer: impl Debug);
+}
+
+/// Every answer as text.
+#[derive(Default, PartialEq, Eq)]
+pub struct Kept(pub Vec<String>);
+
+impl Hearer for Kept {
+    fn hear(&mut self, answer: impl Debug) {
+        self.0.push(format!("{answer:?}"));
+    }
+}
+
+pub struct Dropped;
+
+impl Hearer for Dropped {
+    #[inline]
+    fn hear(&mut self, answer: impl Debug) {
+        black_box(&answer);
+    }
+}
+
+/// The table of the segment after the announcements of the runs.
+fn loaded<T: Segment>(runs: &[Run]) -> T {
+    let mut table = T::empty();
+    table.fresh(&ESI);
+    for run in runs {
+        table.announce(&run.route, &run.communities);
+    }
+    table
+}
+
+/// Does a number of rounds. After rounds that change their table, the election for tag 1 with all of them ready is heard too.
+pub fn rounds<T: Segment>(work: &Work, rounds: u32, hearer: &mut impl Hearer) {
+    match work {
+        Work::Fresh => {
+            let mut table = T::empty();
+            for _ in 0..rounds {
+                hearer.hear(black_box(&mut table).fresh(black_box(&ESI[..])));
+            }
+        }
+        Work::Fill { runs } => {
+            let mut table = T::empty();
+            for _ in 0..rounds {
+                black_box(&mut table).fresh(black_box(&ESI[..]));
+                for run in black_box(runs) {
+                    hearer.hear(table.announce(&run.route, &run.communities));
+                }
+            }
+            close(&table, runs, hearer);
+        }
+        Work::Announce { runs, calls } => {
+            let mut table: T = loaded(runs);
+            for call in calls.iter().cycle().take(rounds as usize) {
+                let call = black_box(call);
+                hearer.hear(table.announce(&call.route, &call.communities));
+            }
+            close(&table, runs, hearer);
+        }
+        Work::Again { runs } => {
+            let mut table: T = loaded(runs);
+            for run in runs.iter().cycle().take(rounds as usize) {
+                let run = black_box(run);
+                hearer.hear(table.withdraw(run.address));
+                hearer.hear(table.announce(&run.route, &run.communities));
+            }
+            close(&table, runs, hearer);
+        }
+        Work::Withdraw { runs, addresses } => {
+            let mut table: T = loaded(runs);
+            for address in addresses.iter().cycle().take(rounds as usize) {
+                hearer.hear(table.withdraw(*black_box(address)));
+            }
+            close(&table, runs, hearer);
+        }
+        Work::Elect { runs, ready } => {
+            let table: T = loaded(runs);
+            for tag in 1..=rounds {
+                hearer.hear(table.elect(black_box(tag), black_box(ready)));
+            }
+        }
+        Work::Returning { runs, algorithm } => {
+            let table: T = loaded(runs);
+            for address in 1..=rounds {
+                let (address, algorithm) = black_box((address, *algorithm));
+                let (preference, dp) = black_box((40_000, true));
+                hearer.hear(table.returning(address, algorithm, preference, dp));
+            }
+        }
+        Work::Digest => {
+            for tag in 1..=rounds {
+                hearer.hear(T::digest(black_box(tag), black_box(&ESI)));
+            }
+        }
+    }
+}
+
+fn close(table: &impl Segment, runs: &[Run], hearer: &mut impl Hearer) {
+    let ready: Vec<u32> = runs.iter().map(|run| run.address).collect();
+    hearer.hear(table.elect(1, &ready));
+}

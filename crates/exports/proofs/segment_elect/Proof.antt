@@ -1,0 +1,15 @@
+-- `segment_elect` meets its contract: the answer of `segment::elect`, field by field. Assumes nothing.
+use mathlib.Core.Path.{ap}
+use Rattle.exports.specs.Exports.{answerOf}
+use borrow.Author.Needs.{needs}
+use Rattle.exports.proofs.segment_elect.Statement.{statement}
+use Rattle.exports.proofs.segment_elect.Tie as tie
+
+elect-requires : tie.Need-elect-requires
+elect-requires c κs = search needs
+
+returns : tie.Need-returns
+returns c = ap answerOf (c .elect .ensures .0)
+
+pub segment-elect-spec : {M : Type 1} → statement M
+segment-elect-spec = tie.close (tie.spec elect-requires returns)

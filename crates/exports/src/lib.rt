@@ -1,0 +1,113 @@
+// One call to a function, for programs in Rust: benchmarks/ counts and times these, and its tests compare their answers with independent ones.
+// They are not for a daemon: nothing tests that the words lent are those of a table (`Valid`), which benchmarks/src/proved.rs sees to by a type.
+use table::WORDS;
+ghost use mathlib.Core.Path.{_≡_};
+ghost use Rattle.table.specs.Table.{live, freshTable, announced, withdrawn};
+ghost use Rattle.table.specs.Words.{tableIn, Valid, Told};
+ghost use Rattle.hrw.specs.Weight.{digestOf};
+ghost use Rattle.election.specs.Election.{electOf};
+ghost use Rattle.returning.specs.Returning.{returningOf};
+ghost use Rattle.exports.specs.Exports.{answerOf, sentOf};
+
+// The answers of the calls, laid out as C lays them out.
+#[repr(C)]
+pub struct Verdict {
+    pub number: u8,
+    pub place: usize,
+}
+
+#[repr(C)]
+pub struct Answer {
+    pub number: u8,
+    pub address: u32,
+    pub algorithm: u8,
+    pub n: u32,
+    pub candidates: u64,
+}
+
+#[repr(C)]
+pub struct Sent {
+    pub number: u8,
+    pub preference: u16,
+    pub dp: bool,
+}
+
+// `segment::fresh`, its table put into the words lent.
+#[no_mangle]
+pub extern "C" fn segment_fresh(t: &mut [u32; WORDS], esi: &[u8]) -> u8
+    ensures answer { λ r. ⌜ Told (freshTable (now (esi .entry))) r 0 (now (t .exit)) ⌝ }
+    ensures kept { λ _. ⌜ Valid (now (t .exit)) ⌝ }
+{
+    let made = segment::fresh(esi);
+    let words = made.table;
+    *t = words;
+    made.number
+}
+
+// `segment::announce`.
+#[no_mangle]
+pub extern "C" fn segment_announce(t: &mut [u32], route: &[u8], communities: &[u8]) -> Verdict
+    requires { ⌜ Valid (now t) ⌝ }
+    ensures answer { λ r. ⌜ Told (announced (tableIn (now (t .entry))) (now (route .entry)) (now (communities .entry))) (r .number) (r .place) (now (t .exit)) ⌝ }
+    ensures kept { λ _. ⌜ Valid (now (t .exit)) ⌝ }
+{
+    let told = segment::announce(t, route, communities);
+    Verdict {
+        number: told.number,
+        place: told.place,
+    }
+}
+
+// `segment::withdraw`.
+#[no_mangle]
+pub extern "C" fn segment_withdraw(t: &mut [u32], address: u32) -> u8
+    requires { ⌜ Valid (now t) ⌝ }
+    ensures answer { λ r. ⌜ Told (withdrawn (tableIn (now (t .entry))) address) r 0 (now (t .exit)) ⌝ }
+    ensures kept { λ _. ⌜ Valid (now (t .exit)) ⌝ }
+{
+    segment::withdraw(t, address)
+}
+
+// `segment::elect`.
+#[no_mangle]
+pub extern "C" fn segment_elect(t: &[u32], tag: u32, ready: &[u32]) -> Answer
+    requires { ⌜ Valid (now t) ⌝ }
+    ensures { λ r. ⌜ r ≡ answerOf (electOf (tableIn (now (t .entry)) .esi) (live (tableIn (now (t .entry)))) tag (now (ready .entry))) ⌝ }
+{
+    let a = segment::elect(t, tag, ready);
+    Answer {
+        number: a.number,
+        address: a.address,
+        algorithm: a.algorithm,
+        n: a.n,
+        candidates: a.candidates,
+    }
+}
+
+// `segment::returning`.
+#[no_mangle]
+pub extern "C" fn segment_returning(
+    t: &[u32],
+    address: u32,
+    algorithm: u8,
+    preference: u16,
+    dp: bool,
+) -> Sent
+    requires { ⌜ Valid (now t) ⌝ }
+    ensures { λ r. ⌜ r ≡ sentOf (returningOf (live (tableIn (now (t .entry)))) address algorithm preference dp) ⌝ }
+{
+    let s = segment::returning(t, address, algorithm, preference, dp);
+    Sent {
+        number: s.number,
+        preference: s.preference,
+        dp: s.dp,
+    }
+}
+
+// `hrw::digest`.
+#[no_mangle]
+pub extern "C" fn segment_digest(tag: u32, esi: &[u8; 10]) -> u32
+    ensures { λ r. ⌜ r ≡ digestOf tag (now (esi .entry)) ⌝ }
+{
+    hrw::digest(tag, *esi)
+}
