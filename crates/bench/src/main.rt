@@ -8,7 +8,7 @@ use libc::STDOUT_FILENO;
 use records::Phase;
 ghost use Prim.Native.Nat.{_≤_};
 ghost use lib.ListN.{length};
-ghost use Rattle.table.specs.Words.{Valid};
+ghost use Rattle.layout.specs.Words.{Valid};
 
 // Where the program stands: the phase of the run, how many octets of the block are filled, and whether there is more to do.
 struct Work {

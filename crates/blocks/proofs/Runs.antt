@@ -7,8 +7,8 @@ use mathlib.Core.List.{List, [], _∷_, _++_}
 use lib.ListN.{replicate, length, take, drop, length-append}
 use borrow.Author.Tests.{eq-eqb, ne-eqb}
 use Rattle.octets.proofs.Laws.{stored-front}
-use Rattle.table.specs.Table.{Table, freshTable}
-use Rattle.table.specs.Words.{Told}
+use Rattle.layout.specs.Table.{Table}
+use Rattle.table.specs.Table.{freshTable, Told}
 use Rattle.frames.specs.Frames.{Front, nothing, bad, cut, whole, front}
 use Rattle.frames.proofs.Laws.{Found, cut-begun, nothing-empty, whole-record, whole-append, bad-append}
 use Rattle.lines.specs.Lines.{Put}

@@ -2,8 +2,8 @@
 // They are not for a daemon: nothing tests that the words lent are those of a table (`Valid`), which benchmarks/src/proved.rs sees to by a type.
 use table::WORDS;
 ghost use mathlib.Core.Path.{_≡_};
-ghost use Rattle.table.specs.Table.{live, freshTable, announced, withdrawn};
-ghost use Rattle.table.specs.Words.{tableIn, Valid, Told};
+ghost use Rattle.table.specs.Table.{freshTable, announced, withdrawn, Told};
+ghost use Rattle.layout.specs.Words.{tableIn, Valid};
 ghost use Rattle.hrw.specs.Weight.{digestOf};
 ghost use Rattle.election.specs.Election.{electOf};
 ghost use Rattle.returning.specs.Returning.{returningOf};
@@ -72,7 +72,7 @@ pub extern "C" fn segment_withdraw(t: &mut [u32], address: u32) -> u8
 #[no_mangle]
 pub extern "C" fn segment_elect(t: &[u32], tag: u32, ready: &[u32]) -> Answer
     requires { ⌜ Valid (now t) ⌝ }
-    ensures { λ r. ⌜ r ≡ answerOf (electOf (tableIn (now (t .entry)) .esi) (live (tableIn (now (t .entry)))) tag (now (ready .entry))) ⌝ }
+    ensures { λ r. ⌜ r ≡ answerOf (electOf (tableIn (now (t .entry)) .esi) (tableIn (now (t .entry)) .entries) tag (now (ready .entry))) ⌝ }
 {
     let a = segment::elect(t, tag, ready);
     Answer {
@@ -94,7 +94,7 @@ pub extern "C" fn segment_returning(
     dp: bool,
 ) -> Sent
     requires { ⌜ Valid (now t) ⌝ }
-    ensures { λ r. ⌜ r ≡ sentOf (returningOf (live (tableIn (now (t .entry)))) address algorithm preference dp) ⌝ }
+    ensures { λ r. ⌜ r ≡ sentOf (returningOf (tableIn (now (t .entry)) .entries) address algorithm preference dp) ⌝ }
 {
     let s = segment::returning(t, address, algorithm, preference, dp);
     Sent {

@@ -9,8 +9,9 @@ use borrow.Author.Tests.{eq-eqb, ne-eqb, le-leb, lt-leb}
 use Rattle.octets.specs.Octets.{numberOf}
 use Rattle.esi.specs.declared.TextRead.{TextRead}
 use Rattle.esi.specs.Text.{readText}
-use Rattle.table.specs.Table.{Table, live, freshTable, announced, withdrawn}
-use Rattle.table.specs.Words.{tableIn, Valid, Told}
+use Rattle.layout.specs.Table.{Table}
+use Rattle.table.specs.Table.{freshTable, announced, withdrawn, Told}
+use Rattle.layout.specs.Words.{tableIn, Valid}
 use Rattle.election.specs.declared.Answer.{Answer}
 use Rattle.election.specs.Election.{electOf}
 use Rattle.records.specs.declared.Phase.{Phase}
@@ -77,7 +78,7 @@ module _ {d : List ℕ} {at n : ℕ} {e : List ℕ} where
         }
 
   pub stepped-query : (v p : List ℕ) (x : Answer) (tag : ℕ) (ready : List ℕ) → tag ≡ numberOf (take 4 p) → ready ≡ wordsIn (drop 4 p)
-      → x ≡ electOf (tableIn v .esi) (live (tableIn v)) tag ready → Valid v → Written d at (queryLine x) n e
+      → x ≡ electOf (tableIn v .esi) (tableIn v .entries) tag ready → Valid v → Written d at (queryLine x) n e
       → Stepped d at (queryTurn (tableIn v) p) (record { phase = Running; at = n }) v e
   unfolding queryTurn
   stepped-query v p x tag ready g l q k w =

@@ -36,8 +36,9 @@ use lib.ListN.{length, take, drop, replicate}
 use lib.Dec.{leb, eqb}
 use Rattle.octets.specs.Octets.{numberOf}
 use Rattle.esi.specs.Text.{readText}
-use Rattle.table.specs.Table.{Table, live, freshTable, announced, withdrawn}
-use Rattle.table.specs.Words.{tableIn}
+use Rattle.layout.specs.Table.{Table}
+use Rattle.table.specs.Table.{freshTable, announced, withdrawn}
+use Rattle.layout.specs.Words.{tableIn}
 use Rattle.election.specs.declared.Answer.{Answer}
 use Rattle.election.specs.Election.{electOf}
 use Rattle.frames.specs.Frames.{Front, nothing, bad, cut, whole, front}
@@ -118,7 +119,7 @@ wordsIn (a ∷ b ∷ c ∷ d ∷ s) = numberOf (a ∷ b ∷ c ∷ d ∷ []) ∷ 
 
 unfoldable pub queryTurn : Table → List ℕ → Turn
 queryTurn t p = record {
-  line = queryLine (electOf (t .esi) (live t) (numberOf (take 4 p)) (wordsIn (drop 4 p)));
+  line = queryLine (electOf (t .esi) (t .entries) (numberOf (take 4 p)) (wordsIn (drop 4 p)));
   next = running t;
 }
 

@@ -12,7 +12,7 @@ use mathlib.Core.List.{List}
 use lib.ListN.{length}
 use lib.Dec.{leb}
 use Rattle.octets.specs.Octets.{stored}
-use Rattle.table.specs.Words.{Valid}
+use Rattle.layout.specs.Words.{Valid}
 use Rattle.records.specs.declared.Step.{Step}
 use Rattle.records.specs.Records.{Turn, stateIn}
 

@@ -6,7 +6,7 @@ ghost use mathlib.Core.Bool.{true, false};
 ghost use Prim.Native.Nat.{ℕ, _+_, _≤_, _/_};
 ghost use mathlib.Core.List.{List};
 ghost use lib.ListN.{length, take};
-ghost use Rattle.table.specs.Words.{tableIn, Valid};
+ghost use Rattle.layout.specs.Words.{tableIn, Valid};
 ghost use Rattle.lines.specs.Lines.{Put};
 ghost use Rattle.records.specs.Records.{
   badLine,

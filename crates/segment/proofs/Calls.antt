@@ -14,9 +14,9 @@ use Rattle.keyed.specs.Keyed.{has, insert, remove}
 use Rattle.keyed.specs.Journal.{hold, release, neither, journalNumber}
 use Rattle.keyed.proofs.Keyed.{map-has, map-insert, map-remove}
 use Rattle.keyed.proofs.Journal.{Rules, placed}
-use Rattle.table.specs.Table.{Entry, Table, keyOf, live, tableOf, WellFormed, announceNumber, withdrawNumber, announced, withdrawn}
-use Rattle.table.specs.Words.{tableIn, Told}
-use Rattle.table.proofs.Laws.{live-of}
+use Rattle.layout.specs.Table.{Entry, Table, entryKey, tableOf, WellFormed}
+use Rattle.table.specs.Table.{announceNumber, withdrawNumber, announced, withdrawn, Told}
+use Rattle.layout.specs.Words.{tableIn}
 use Rattle.table.proofs.Calls.{announced-kept, withdrawn-kept, passed-route, passed-esi, passed-list, passed-room}
 use Rattle.election.specs.declared.Answer.{Answer}
 use Rattle.election.specs.Election.{electOf}
@@ -30,21 +30,15 @@ module _ (i : List ℕ) where
   abbrev pub state : List Announcement → Table
   state l = tableOf i (map entryFrom l)
 
-  module _ (l : List Announcement) (h : length l ≤ 64) where
-    pub live-state : live (state l) ≡ map entryFrom l
-    live-state = live-of i (map entryFrom l) (rw length-map h)
-
-    has-state : (k : ℕ) → has keyOf k (live (state l)) ≡ has originatorKey k l
-    has-state k = ap (has keyOf k) live-state ∙ map-has entryFrom originatorKey keyOf (λ x. refl) k l
-
-    length-state : length (live (state l)) ≡ length l
-    length-state = ap length live-state ∙ length-map l entryFrom
+  module _ (l : List Announcement) where
+    has-state : (k : ℕ) → has entryKey k (map entryFrom l) ≡ has originatorKey k l
+    has-state k = map-has entryFrom originatorKey entryKey (λ x. refl) k l
 
     -- a call on it answers the number that the journal gives where l is held
     pub announced-number : (r c : List ℕ) → announced (state l) r c .number ≡ numberFor i l (announce r c)
     unfolding announced journalNumber callNumber
     announced-number r c =
-        ap₂ (λ (p : Bool) (n : ℕ). announceNumber i r c p n) (has-state (addressKey (routeAddress r))) length-state
+        ap₂ (λ (p : Bool) (n : ℕ). announceNumber i r c p n) (has-state (addressKey (routeAddress r))) (length-map l entryFrom)
 
     pub withdrawn-number : (a : ℕ) → withdrawn (state l) a .number ≡ numberFor i l (withdraw a)
     unfolding withdrawn journalNumber callNumber
@@ -63,14 +57,14 @@ module _ (i : List ℕ) where
     unfolding leaves announced withdrawn callEffect callNumber journalNumber placed
     call-state (announce r c) =
         let p : Announcement = record { route = r; communities = c } in
-        chosen (announced (state l) r c .number) (numberFor i l (announce r c)) (insert keyOf (entryFrom p) (live (state l))) (insert originatorKey p l)
+        chosen (announced (state l) r c .number) (numberFor i l (announce r c)) (insert entryKey (entryFrom p) (map entryFrom l)) (insert originatorKey p l)
         (announced-number r c)
-        (ap (insert keyOf (entryFrom p)) live-state ∙ sym (map-insert entryFrom originatorKey keyOf (λ x. refl) p l))
+        (sym (map-insert entryFrom originatorKey entryKey (λ x. refl) p l))
     call-state (withdraw a) =
         let k : ℕ = addressKey a in
-        chosen (withdrawn (state l) a .number) (numberFor i l (withdraw a)) (remove keyOf k (live (state l))) (remove originatorKey k l)
+        chosen (withdrawn (state l) a .number) (numberFor i l (withdraw a)) (remove entryKey k (map entryFrom l)) (remove originatorKey k l)
         (withdrawn-number a)
-        (ap (remove keyOf k) live-state ∙ sym (map-remove entryFrom originatorKey keyOf (λ x. refl) k l))
+        (sym (map-remove entryFrom originatorKey entryKey (λ x. refl) k l))
     call-state (elect tag ready) = refl
     call-state (returning a alg p d) = refl
 
@@ -153,10 +147,10 @@ unfolding replyTo leaves
 withdraw-changes t a n p b o = (ap changed (sym (o .0)), sym (o .2))
 
 -- what the code answers to an election and to a returning router is the list's reply
-pub elect-replies : (t : Table) (tag : ℕ) (ready : List ℕ) {r : Answer} → r ≡ electOf (t .esi) (live t) tag ready → replyTo t (elect tag ready) ≡ elected r
+pub elect-replies : (t : Table) (tag : ℕ) (ready : List ℕ) {r : Answer} → r ≡ electOf (t .esi) (t .entries) tag ready → replyTo t (elect tag ready) ≡ elected r
 unfolding replyTo
 elect-replies t tag ready e = ap elected (sym e)
 
-pub returning-replies : (t : Table) (a alg p : ℕ) (d : Bool) {r : Sent} → r ≡ returningOf (live t) a alg p d → replyTo t (returning a alg p d) ≡ sent r
+pub returning-replies : (t : Table) (a alg p : ℕ) (d : Bool) {r : Sent} → r ≡ returningOf (t .entries) a alg p d → replyTo t (returning a alg p d) ≡ sent r
 unfolding replyTo
 returning-replies t a alg p d e = ap sent (sym e)

@@ -12,8 +12,9 @@ use Rattle.keyed.specs.Journal.{after, answers, heldAt, heard, lastHeld}
 use Rattle.keyed.proofs.Keyed.{map-insert}
 use Rattle.keyed.proofs.Order.{Distinct, perm-length, perm-arranged, rising-arranged-all, rising-unique}
 use Rattle.keyed.proofs.Journal as journal
-use Rattle.table.specs.Table.{Entry, Table, keyOf, live, WellFormed, ownerOf, freshTable}
-use Rattle.table.specs.Words.{tableIn, Told}
+use Rattle.layout.specs.Table.{Entry, Table, entryKey, WellFormed, ownerOf}
+use Rattle.table.specs.Table.{freshTable, Told}
+use Rattle.layout.specs.Words.{tableIn}
 use Rattle.table.proofs.Calls.{fresh-kept}
 use Rattle.election.specs.declared.Answer.{Answer}
 use Rattle.election.specs.Election.{electOf}
@@ -22,17 +23,17 @@ use Rattle.returning.specs.Returning.{returningOf}
 use Rattle.segment.specs.Calls.{Call, announce, withdraw, elect, returning, Reply, changed, elected, sent, numberIn, replyTo, leaves}
 use Rattle.segment.specs.Journal.{Announcement, originatorKey, again, entryFrom, entriesFrom, callNumber, callEffect, numberFor, step, journalReply, held, OnePage}
 use Rattle.segment.specs.Demand3.{tableAfter, Follows, Demand3}
-use Rattle.segment.proofs.Calls.{rules, state, live-state, announced-number, withdrawn-number, call-state, refused-leaves, call-kept}
+use Rattle.segment.proofs.Calls.{rules, state, announced-number, withdrawn-number, call-state, refused-leaves, call-kept}
 
 -- THE ENTRIES of what is held, in order
-entries-arranged : (js : List Announcement) → entriesFrom js ≡ arranged keyOf (map entryFrom js)
+entries-arranged : (js : List Announcement) → entriesFrom js ≡ arranged entryKey (map entryFrom js)
 unfolding arranged
 entries-arranged [] = refl
 entries-arranged (p ∷ js) =
-    map-insert entryFrom originatorKey keyOf (λ x. refl) p (arranged originatorKey js) ∙ ap (insert keyOf (entryFrom p)) (entries-arranged js)
+    map-insert entryFrom originatorKey entryKey (λ x. refl) p (arranged originatorKey js) ∙ ap (insert entryKey (entryFrom p)) (entries-arranged js)
 
-rising-entries : (js : List Announcement) → Rising keyOf 0 (entriesFrom js)
-rising-entries js = rw (entries-arranged js) (rising-arranged-all keyOf (map entryFrom js))
+rising-entries : (js : List Announcement) → Rising entryKey 0 (entriesFrom js)
+rising-entries js = rw (entries-arranged js) (rising-arranged-all entryKey (map entryFrom js))
 
 -- NUMBERS AND REPLIES
 unheard : (m n : ℕ) (o : Option Announcement) → cond (eqb m 0) o o ≡ cond (eqb n 0) o o
@@ -80,32 +81,26 @@ module _ (i : List ℕ) where
   Kept = journal.Kept originatorKey (callNumber i) callEffect again 64
 
   module _ (js : List Announcement) (k : Kept js) where
-    short : length (arranged originatorKey js) ≤ 64
-    short = subst (λ (n : ℕ). n ≤ 64) (sym (perm-length (perm-arranged originatorKey js (k .distinct)))) (k .fits)
-
-    live-held : live (state i (arranged originatorKey js)) ≡ entriesFrom js
-    live-held = live-state i (arranged originatorKey js) short
-
     number-held : (c : Call) → numberFor i (arranged originatorKey js) c ≡ numberFor i js c
     number-held c = journal.number-arranged originatorKey (callNumber i) callEffect again 64 js c (k .distinct)
 
     agree : (c : Call) → replyTo (state i (arranged originatorKey js)) c ≡ journalReply i js c
     unfolding replyTo journalReply
-    agree (announce r c) = ap changed (announced-number i (arranged originatorKey js) short r c ∙ number-held (announce r c))
-    agree (withdraw a) = ap changed (withdrawn-number i (arranged originatorKey js) short a ∙ number-held (withdraw a))
-    agree (elect tag ready) = ap (λ (l : List Entry). elected (electOf i l tag ready)) live-held
-    agree (returning a alg p d) = ap (λ (l : List Entry). sent (returningOf l a alg p d)) live-held
+    agree (announce r c) = ap changed (announced-number i (arranged originatorKey js) r c ∙ number-held (announce r c))
+    agree (withdraw a) = ap changed (withdrawn-number i (arranged originatorKey js) a ∙ number-held (withdraw a))
+    agree (elect tag ready) = refl
+    agree (returning a alg p d) = refl
 
     all-entries : List·Permᴰ (entriesFrom js) (map entryFrom js)
     all-entries = Permᴰ·map entryFrom (perm-arranged originatorKey js (k .distinct))
 
-    only-entries : (l : List Entry) → Rising keyOf 0 l → List·Permᴰ l (map entryFrom js) → l ≡ entriesFrom js
-    only-entries l r h = rising-unique keyOf l (entriesFrom js) 0 0 r (rising-entries js) (List·Permᴰ·trans h (Permᴰ·symm all-entries))
+    only-entries : (l : List Entry) → Rising entryKey 0 l → List·Permᴰ l (map entryFrom js) → l ≡ entriesFrom js
+    only-entries l r h = rising-unique entryKey l (entriesFrom js) 0 0 r (rising-entries js) (List·Permᴰ·trans h (Permᴰ·symm all-entries))
 
   -- FROM THE TABLE OF NOTHING HELD
   one : (l : List Announcement) (c : Call) → length l ≤ 64
       → leaves (state i l) c ≡ state i (cond (eqb (numberFor i l c) 0) (journal.placed originatorKey (callEffect c) l) l)
-  one l c h = call-state i l h c
+  one l c h = call-state i l c
 
   kept-none : Kept []
   kept-none = journal.kept-none originatorKey (callNumber i) callEffect again 64

@@ -8,7 +8,10 @@ use Rattle.community.specs.Community.{electionUnder, communityOctets, readCommu
 use Rattle.places.specs.Places.{setOf, picked}
 use Rattle.choice.specs.Choice.{best, bestOf}
 use Rattle.hrw.specs.Weight.{weightOf}
-use Rattle.election.specs.Election.{allCarry, inUse, onList, eligible, candidates, candidateSet, better, elected, reservedTag, answerOf, electOf}
+use Rattle.agreement.specs.Agreement.{allCarry, inUse}
+use Rattle.ready.specs.Ready.{onList, eligible, candidates, candidateSet}
+use Rattle.winner.specs.Winner.{better, elected}
+use Rattle.election.specs.Election.{reservedTag, answerOf, electOf}
 use Rattle.returning.specs.Returning.{allUnder, reaches, besideReference, advertised, returningOf}
 use Rattle.segment.specs.Values.{starred, allRight}
 

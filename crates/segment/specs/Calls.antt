@@ -11,7 +11,8 @@ use Prim.Native.Nat.{ℕ}
 use mathlib.Core.Path.{_≡_}
 use mathlib.Core.Bool.{Bool}
 use mathlib.Core.List.{List}
-use Rattle.table.specs.Table.{Table, live, announced, withdrawn}
+use Rattle.layout.specs.Table.{Table}
+use Rattle.table.specs.Table.{announced, withdrawn}
 use Rattle.election.specs.declared.Answer.{Answer}
 use Rattle.election.specs.Election.{electOf}
 use Rattle.returning.specs.declared.Sent.{Sent}
@@ -36,8 +37,8 @@ numberIn (sent s) = s .number
 unfoldable pub replyTo : Table → Call → Reply
 replyTo t (announce r c) = changed (announced t r c .number)
 replyTo t (withdraw a) = changed (withdrawn t a .number)
-replyTo t (elect tag ready) = elected (electOf (t .esi) (live t) tag ready)
-replyTo t (returning a alg p d) = sent (returningOf (live t) a alg p d)
+replyTo t (elect tag ready) = elected (electOf (t .esi) (t .entries) tag ready)
+replyTo t (returning a alg p d) = sent (returningOf (t .entries) a alg p d)
 
 unfoldable pub leaves : Table → Call → Table
 leaves t (announce r c) = announced t r c .table

@@ -11,7 +11,8 @@ use mathlib.Core.Option.{none}
 use lib.ListN.{length, replicate}
 use Rattle.keyed.specs.Keyed.{Rising}
 use Rattle.keyed.specs.Journal.{after, answers, heldAt, lastHeld}
-use Rattle.table.specs.Table.{Entry, Table, keyOf, WellFormed, ownerOf, freshTable}
+use Rattle.layout.specs.Table.{Entry, Table, entryKey, WellFormed, ownerOf}
+use Rattle.table.specs.Table.{freshTable}
 use Rattle.election.specs.Election.{electOf}
 use Rattle.returning.specs.Returning.{returningOf}
 use Rattle.segment.specs.Calls.{Call, elect, returning, Reply, changed, elected, sent, numberIn, replyTo, leaves}
@@ -48,9 +49,9 @@ pub record Demand3 (i : List ℕ) (cs : List Call) : Type 0 where
   pub accepted : (order : List Announcement) → List·Permᴰ order (held i cs) → replies i (map again order) ≡ replicate (length order) (changed 0)
   pub state : (order : List Announcement) → List·Permᴰ order (held i cs) → tableAfter i (map again order) ≡ tableAfter i cs
   -- the entries read from what is held can be put in rising address order, and in one way only
-  pub rising : Rising keyOf 0 (entriesFrom (held i cs))
+  pub rising : Rising entryKey 0 (entriesFrom (held i cs))
   pub all : List·Permᴰ (entriesFrom (held i cs)) (map entryFrom (held i cs))
-  pub only : (l : List Entry) → Rising keyOf 0 l → List·Permᴰ l (map entryFrom (held i cs)) → l ≡ entriesFrom (held i cs)
+  pub only : (l : List Entry) → Rising entryKey 0 l → List·Permᴰ l (map entryFrom (held i cs)) → l ≡ entriesFrom (held i cs)
   -- for every tag and every ready list the whole answer of an election, at the end and after what is held was announced alone, is the one for the
   -- journal's identifier and these entries; and so is what a returning router is told
   pub answer : (tag : ℕ) (ready : List ℕ) → replyTo (tableAfter i cs) (elect tag ready) ≡ elected (electOf (ownerOf i) (entriesFrom (held i cs)) tag ready)

@@ -21,7 +21,8 @@ use Rattle.route.specs.Route.{routeAddress}
 use Rattle.community.specs.Community.{electionIn}
 use Rattle.keyed.specs.Keyed.{has, arranged}
 use Rattle.keyed.specs.Journal.{Effect, hold, release, neither, after, journalNumber, journalStep}
-use Rattle.table.specs.Table.{Entry, entryOf, ownerOf, announceNumber, withdrawNumber}
+use Rattle.layout.specs.Table.{Entry, entryOf, ownerOf}
+use Rattle.table.specs.Table.{announceNumber, withdrawNumber}
 use Rattle.election.specs.Election.{electOf}
 use Rattle.returning.specs.Returning.{returningOf}
 use Rattle.segment.specs.Calls.{Call, announce, withdraw, elect, returning, Reply, changed, elected, sent}

@@ -11,10 +11,11 @@ use Rattle.community.specs.declared.Election.{Election}
 use Rattle.community.specs.Community.{electionUnder, communityOctets, readCommunity}
 use Rattle.hrw.specs.Weight.{weightOf}
 use Rattle.election.specs.declared.Answer.{Answer}
-use Rattle.election.specs.Election.{elected, electOf}
+use Rattle.winner.specs.Winner.{elected}
+use Rattle.election.specs.Election.{electOf}
 use Rattle.returning.specs.declared.Sent.{Sent}
 use Rattle.returning.specs.Returning.{returningOf}
-use Rattle.table.specs.Table.{Entry}
+use Rattle.layout.specs.Table.{Entry}
 
 pub record Value : Type 0 where
   pub computed : List ℕ

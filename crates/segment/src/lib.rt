@@ -10,9 +10,9 @@ ghost use mathlib.Core.List.{List, []};
 ghost use mathlib.Core.Bool.{true};
 ghost use lib.Count.{ones};
 ghost use Rattle.route.specs.Route.{Fault, routeNumber};
-ghost use Rattle.table.specs.Table.{live, freshTable, announced, withdrawn};
-ghost use Rattle.table.specs.Words.{tableIn, Valid, Told};
-ghost use Rattle.election.specs.Election.{electOf, NoneNamed};
+ghost use Rattle.layout.specs.Words.{tableIn, Valid};
+ghost use Rattle.table.specs.Table.{freshTable, announced, withdrawn, Told};
+ghost use Rattle.election.specs.Election.{electOf, NoneNamed, Chosen};
 ghost use Rattle.returning.specs.Returning.{returningOf};
 ghost use Rattle.segment.specs.Calls as calls;
 ghost use Rattle.segment.specs.Demand3.{Demand3, Follows, tableAfter};
@@ -56,11 +56,13 @@ pub fn withdraw(t: &mut [u32], address: Address) -> u8
 }
 
 // Elects the Designated Forwarder for a tag: 10 for tag 0 or 4,294,967,295, 11 for a ready list over 64, 12 where no candidate is eligible.
+// Where an address is named, it is that of a candidate, and under algorithms 1 to 3 of the only one than which none is better.
 pub fn elect(t: &[u32], tag: u32, ready: &[Address]) -> Answer
     requires { ⌜ Valid (now t) ⌝ }
-    ensures answer { λ r. ⌜ r ≡ electOf (tableIn (now (t .entry)) .esi) (live (tableIn (now (t .entry)))) tag (now (ready .entry)) ⌝ }
+    ensures answer { λ r. ⌜ r ≡ electOf (tableIn (now (t .entry)) .esi) (tableIn (now (t .entry)) .entries) tag (now (ready .entry)) ⌝ }
     ensures counted { λ r. ⌜ r .n ≡ ones (r .candidates) ⌝ }
-    ensures none_named { λ r. ⌜ NoneNamed (live (tableIn (now (t .entry)))) tag (now (ready .entry)) r ⌝ }
+    ensures none_named { λ r. ⌜ NoneNamed (tableIn (now (t .entry)) .entries) tag (now (ready .entry)) r ⌝ }
+    ensures chosen { λ r. ⌜ (r .number ≡ 0 → Chosen (tableIn (now (t .entry)) .esi) (tableIn (now (t .entry)) .entries) tag (now (ready .entry)) r) ⌝ }
     ensures call { λ r. ⌜ calls.replyTo (tableIn (now (t .entry))) (calls.elect tag (now (ready .entry))) ≡ calls.elected r ⌝ }
     ensures follows { λ r. ⌜ Follows (tableIn (now (t .entry))) (calls.elect tag (now (ready .entry))) (calls.elected r) (tableIn (now (t .entry))) ⌝ }
 {
@@ -70,7 +72,7 @@ pub fn elect(t: &[u32], tag: u32, ready: &[Address]) -> Answer
 // What a returning router advertises: 15 for an own algorithm that is not 2 or 3, 6 for address zero.
 pub fn returning(t: &[u32], address: Address, algorithm: u8, preference: u16, dp: bool) -> Sent
     requires { ⌜ Valid (now t) ⌝ }
-    ensures answer { λ r. ⌜ r ≡ returningOf (live (tableIn (now (t .entry)))) address algorithm preference dp ⌝ }
+    ensures answer { λ r. ⌜ r ≡ returningOf (tableIn (now (t .entry)) .entries) address algorithm preference dp ⌝ }
     ensures call { λ r. ⌜ calls.replyTo (tableIn (now (t .entry))) (calls.returning address algorithm preference dp) ≡ calls.sent r ⌝ }
     ensures follows { λ r. ⌜ Follows (tableIn (now (t .entry))) (calls.returning address algorithm preference dp) (calls.sent r) (tableIn (now (t .entry))) ⌝ }
 {

@@ -3,7 +3,7 @@
 // value of CRC-32.
 use libc::STDOUT_FILENO;
 use table::WORDS;
-ghost use Rattle.table.specs.Words.{Valid};
+ghost use Rattle.layout.specs.Words.{Valid};
 
 // ---- one line for one value
 

@@ -2,8 +2,8 @@
 use native.Mathlib.Omega.{arith}
 use mathlib.Core.Path.{_≡_, refl, sym}
 use lib.ListN.{length}
-use Rattle.table.specs.Words.{Valid}
-use Rattle.table.proofs.Words.{length-valid}
+use Rattle.layout.specs.Words.{Valid}
+use Rattle.layout.proofs.Words.{length-valid}
 use borrow.Author.Needs.{needs}
 use Rattle.bench.proofs.run.Statement.{statement}
 use Rattle.bench.proofs.run.Tie as tie

@@ -3,8 +3,8 @@ use Prim.Native.Nat.{_-_}
 use native.Mathlib.Omega.{arith}
 use mathlib.Core.Path.{_≡_, refl, sym, _∙_}
 use lib.ListN.{length}
-use Rattle.table.specs.Words.{Valid}
-use Rattle.table.proofs.Words.{length-valid}
+use Rattle.layout.specs.Words.{Valid}
+use Rattle.layout.proofs.Words.{length-valid}
 use Rattle.records.specs.Records.{stateIn}
 use Rattle.blocks.specs.Blocks.{Ran}
 use Rattle.blocks.proofs.Blocks.{written-length, ran-none, ran-next, ran-stopped}

@@ -1,7 +1,7 @@
 -- `announce` meets its contract: the record is cut after its route, and the table's answer is told. Assumes nothing.
 use mathlib.Core.Path.{sym}
 use lib.Seq.{length-take-le}
-use Rattle.table.specs.Words.{tableIn}
+use Rattle.layout.specs.Words.{tableIn}
 use Rattle.records.proofs.Turns.{stepped-announce}
 use borrow.Author.Needs.{needs}
 use Rattle.records.proofs.announce.Statement.{statement}

@@ -1,7 +1,7 @@
 -- `begin` meets its contract: the text is read, and the words of a fresh table of its identifier are copied. Assumes nothing.
 use mathlib.Core.Path.{sym, _∙_}
-use Rattle.table.specs.Words.{tableIn}
-use Rattle.table.proofs.Words.{length-valid}
+use Rattle.layout.specs.Words.{tableIn}
+use Rattle.layout.proofs.Words.{length-valid}
 use Rattle.records.proofs.Turns.{stepped-end, stepped-begin}
 use borrow.Author.Needs.{needs}
 use Rattle.records.proofs.begin.Statement.{statement}

@@ -1,6 +1,6 @@
 -- `carry_out` meets its contract: the turn of a record, by phase. Assumes nothing.
 use native.Mathlib.Omega.{arith}
-use Rattle.table.specs.Words.{tableIn}
+use Rattle.layout.specs.Words.{tableIn}
 use Rattle.records.proofs.Turns.{stepped-as, turn-begin, turn-none, turn-later, stepped-ended}
 use borrow.Author.Needs.{needs}
 use Rattle.records.proofs.carry_out.Statement.{statement}

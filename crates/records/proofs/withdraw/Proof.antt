@@ -1,7 +1,7 @@
 -- `withdraw` meets its contract: the address is read, and the table's answer is told. Assumes nothing.
 use mathlib.Core.Path.{ap, _∙_}
 use Rattle.octets.specs.Octets.{numberOf}
-use Rattle.table.specs.Words.{tableIn}
+use Rattle.layout.specs.Words.{tableIn}
 use Rattle.records.proofs.Turns.{four, stepped-withdraw}
 use borrow.Author.Needs.{needs}
 use Rattle.records.proofs.withdraw.Statement.{statement}

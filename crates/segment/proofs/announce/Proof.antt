@@ -1,6 +1,6 @@
 -- `announce` meets its contract: the table's own promises, and that it is the list's call. Assumes nothing.
 use denote.Ref.{now}
-use Rattle.table.specs.Words.{tableIn}
+use Rattle.layout.specs.Words.{tableIn}
 use Rattle.segment.specs.Calls.{announce}
 use Rattle.segment.proofs.Calls.{announce-changes}
 use Rattle.segment.proofs.Demand3.{follows}

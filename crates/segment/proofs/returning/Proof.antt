@@ -1,5 +1,5 @@
 -- `returning` meets its contract: the returning router's own promise, and that it is the list's reply. Assumes nothing.
-use Rattle.table.specs.Words.{tableIn}
+use Rattle.layout.specs.Words.{tableIn}
 use Rattle.segment.proofs.Calls.{returning-replies}
 use Rattle.segment.proofs.Demand3.{returning-follows}
 use borrow.Author.Needs.{needs}

@@ -1,5 +1,5 @@
 -- `withdraw` meets its contract: the table's own promises, and that it is the list's call. Assumes nothing.
-use Rattle.table.specs.Words.{tableIn}
+use Rattle.layout.specs.Words.{tableIn}
 use Rattle.segment.specs.Calls.{withdraw}
 use Rattle.segment.proofs.Calls.{withdraw-changes}
 use Rattle.segment.proofs.Demand3.{follows}

@@ -1,7 +1,7 @@
 -- `sixty_four` meets its contract: every announcement leaves a table that the calls made. Assumes nothing.
 use Prim.Native.Nat.{_-_}
 use native.Mathlib.Omega.{arith}
-use Rattle.table.specs.Words.{Valid}
+use Rattle.layout.specs.Words.{Valid}
 use Rattle.vectors.proofs.sixty_four.Statement.{statement}
 use Rattle.vectors.proofs.sixty_four.Tie as tie
 
