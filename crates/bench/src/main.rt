@@ -6,7 +6,7 @@ use libc::STDERR_FILENO;
 use libc::STDIN_FILENO;
 use libc::STDOUT_FILENO;
 use records::Phase;
-ghost use Prim.Native.Nat.{_≤_};
+ghost use Prim.Native.Nat.{_≤_, _<_};
 ghost use lib.ListN.{length};
 ghost use Rattle.layout.specs.Words.{Valid};
 
@@ -32,9 +32,10 @@ fn end(phase: Phase, rest: &[u8], out: &mut [u8]) {
     write_lines(&out[..wrote]);
 }
 
-// Reads more octets behind those that fill the block. A read that fails counts as the end of the input.
+// Reads more octets behind those that fill the block. There is room for one, so a read of none is the end of the input; a read that fails counts as the end
+// too.
 fn read_more(phase: Phase, block: &mut [u8], filled: usize, out: &mut [u8]) -> Work
-    requires { ⌜ filled ≤ length (now block) ⌝ }
+    requires { ⌜ filled < length (now block) ⌝ }
 {
     let got = libc::read(STDIN_FILENO, &mut block[filled..]);
     if got < 0 {
@@ -60,9 +61,9 @@ fn read_more(phase: Phase, block: &mut [u8], filled: usize, out: &mut [u8]) -> W
     }
 }
 
-// One turn: the block is taken, what it makes is written at once, and more is read where that is next.
+// One turn: the block is taken, what it makes is written at once, and more is read where that is next. The block has room for the longest record.
 fn turn(t: &mut [u32], phase: Phase, block: &mut [u8], filled: usize, out: &mut [u8]) -> Work
-    requires { ⌜ Valid (now t) ⌝ }
+    requires { ⌜ (259 ≤ length (now block)) × Valid (now t) ⌝ }
     ensures { λ _. ⌜ Valid (now (t .exit)) ⌝ }
 {
     let taken = blocks::take_block(t, phase, block, filled, out);
@@ -93,7 +94,9 @@ fn turn(t: &mut [u32], phase: Phase, block: &mut [u8], filled: usize, out: &mut 
 }
 
 // A proved loop has to end, and nothing says that the input does: the turns are counted down from a number that no run uses up.
-fn run(block: &mut [u8], out: &mut [u8]) {
+fn run(block: &mut [u8], out: &mut [u8])
+    requires { ⌜ 259 ≤ length (now block) ⌝ }
+{
     let begun = blocks::start();
     let first = begun.phase;
     let mut t = begun.table;

@@ -10,9 +10,9 @@ use lib.Seq.{take-at, take-all, drop-at, drop-drop, length-take-le, getD-append-
 use lib.Dec.{ltb, leb}
 use borrow.Author.Tests.{lt-ltb, le-ltb, ltb-true, ltb-false, leb-true, leb-false}
 use Rattle.octets.specs.Octets.{stored}
-use Rattle.octets.proofs.Laws.{stored-fits, stored-front, length-stored, front-next, front-all}
+use Rattle.octets.proofs.Laws.{Octets, octets-take, octets-drop, stored-fits, stored-front, length-stored, front-next, front-all}
 use Rattle.frames.specs.Frames.{Front, nothing, bad, cut, whole, front}
-use Rattle.frames.proofs.Laws.{Found}
+use Rattle.frames.proofs.Laws.{Found, nothing-empty, cut-length}
 use Rattle.records.specs.declared.Phase.{Phase}
 use Rattle.records.specs.declared.Phase.the-variants.{Ended}
 use Rattle.records.specs.declared.Step.{Step}
@@ -222,24 +222,32 @@ module _ (h : Phase) (n : ℕ) where
   unfolding nextIn
   next-read e l = rw (e, le-ltb n 40 l)
 
+-- what may still become a record is shorter than one
+part-short : (s : List ℕ) (f : Front) → Octets s → front s ≡ f → isPart f ≡ true → length s < 259
+unfolding isPart
+part-short s nothing o e p = let l = ap length (nothing-empty s e) in omega arith
+part-short s bad o e p = absurd (false≢true p)
+part-short s cut o e p = cut-length s (o 3) e
+part-short s (whole k l r) o e p = absurd (false≢true p)
+
 -- why it stopped, by what is next
-why-next : (q : Bench) (s : List ℕ) (n : ℕ) → stopped q s n ≡ true → Why q s n (nextIn (q .phase) n)
+why-next : (q : Bench) (s : List ℕ) (n : ℕ) → Octets s → stopped q s n ≡ true → Why q s n (nextIn (q .phase) n)
 unfolding stopped nextIn
-why-next q s n = by-end (hasEnded q) refl
+why-next q s n o = by-end (hasEnded q) refl
   where
     by-room : (t : Bool) → ltb n 40 ≡ t → hasEnded q ≡ false → (t || isPart (front s)) ≡ true → Why q s n (cond t Again Read)
     by-room true h e p = full refl e (ltb-true n 40 h)
-    by-room false h e p = part refl e (ltb-false n 40 h) p
+    by-room false h e p = part refl e (ltb-false n 40 h) p (part-short s (front s) o refl p)
 
     by-end : (t : Bool) → hasEnded q ≡ t → (t || (ltb n 40 || isPart (front s))) ≡ true → Why q s n (cond t Done (cond (ltb n 40) Again Read))
     by-end true h p = ended refl h
     by-end false h p = by-room (ltb n 40) refl h p
 
-pub block-taken : {b : Bench} {s d : List ℕ} {p : Progress} {q : Bench} {e : List ℕ} (n m : ℕ) {k : ℕ} {u : List ℕ} {x : Next} → m ≡ min n (length s)
+pub block-taken : {b : Bench} {s d : List ℕ} {p : Progress} {q : Bench} {e : List ℕ} (n m : ℕ) {k : ℕ} {u : List ℕ} {x : Next} → Octets s → m ≡ min n (length s)
     → Ran b (take m s) d p q e → Stopped (take m s) d p q ≡ true → k ≡ length (kept s (p .used) m) → u ≡ stored s 0 (kept s (p .used) m)
     → x ≡ nextIn (q .phase) (length e - p .wrote)
     → BlockTaken b s n d (record { phase = q .phase; left = k; wrote = p .wrote; next = x }) q u e
-block-taken {b} {s} {d} {p} {q} {e} n m {k} {u} {x} h ran stop hk hu hx =
+block-taken {b} {s} {d} {p} {q} {e} n m {k} {u} {x} o h ran stop hk hu hx =
     let i = p .used in
     let t : take m s ≡ take n s = ap (λ (j : ℕ). take j s) h ∙ take-least n s in
     let l = length-kept s i m in
@@ -252,7 +260,7 @@ block-taken {b} {s} {d} {p} {q} {e} n m {k} {u} {x} h ran stop hk hu hx =
       others = ran .others;
       left = rw (← t) (omega (arith, length-drop i (take m s)));
       block = hu ∙ rw (← t, hk) (ap (stored s 0) (kept-last s i m (ran .used)));
-      why = rw (front, hx, room) (why-next q (kept s i m) (length d - p .wrote) stop);
+      why = rw (front, hx, room) (why-next q (kept s i m) (length d - p .wrote) (octets-drop i (take m s) (octets-take m s o)) stop);
     }
 
 -- what is left fits into the block
@@ -260,3 +268,12 @@ pub left-within : {b : Bench} {s : List ℕ} {n : ℕ} {d : List ℕ} {p : Taken
 left-within {s = s} {n} {p = p} {u = u} t =
     let l : length u ≡ length s = ap length (t .block) ∙ length-stored s 0 (lastOf (p .left) (take n s)) in
     omega (arith, t .left, length-take n s)
+
+-- where more is to be read, what is left is shorter than a record
+pub left-short : {b : Bench} {s : List ℕ} {n : ℕ} {d : List ℕ} {p : Taken} {q : Bench} {u e : List ℕ} → BlockTaken b s n d p q u e → p .next ≡ Read → p .left < 259
+left-short {b} {s} {n} {d} {p} {q} {u} {e} t x = by-why (t .why)
+  where
+    by-why : Why q (take (p .left) u) (length d - p .wrote) (p .next) → p .left < 259
+    by-why (ended y h) = let z : _≡_ {A = ℕ} 0 1 = cc in absurd (omega arith)
+    by-why (full y h l) = let z : _≡_ {A = ℕ} 0 1 = cc in absurd (omega arith)
+    by-why (part y h l f g) = omega (arith, length-take-le (p .left) u (left-within t))

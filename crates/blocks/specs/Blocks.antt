@@ -69,11 +69,11 @@ lastOf k s = drop (length s - k) s
 unfoldable pub nextIn : Phase → ℕ → Next
 nextIn h n = cond (isEnd h) Done (cond (ltb n 40) Again Read)
 
--- no line is longer than 40 octets; a whole record is not left over where there was room for its line
+-- no line is longer than 40 octets, and no record than 259: what may still become one is shorter
 pub data Why (q : Bench) (s : List ℕ) (n : ℕ) (x : Next) : Type 0 where
   ended : x ≡ Done → hasEnded q ≡ true → Why q s n x
   full : x ≡ Again → hasEnded q ≡ false → n < 40 → Why q s n x
-  part : x ≡ Read → hasEnded q ≡ false → 40 ≤ n → isPart (front s) ≡ true → Why q s n x
+  part : x ≡ Read → hasEnded q ≡ false → 40 ≤ n → isPart (front s) ≡ true → length s < 259 → Why q s n x
 
 pub record BlockTaken (b : Bench) (s : List ℕ) (n : ℕ) (d : List ℕ) (p : Taken) (q : Bench) (u e : List ℕ) : Type 0 where
   -- whatever follows the octets that were handed in, the run is what was made of them, and then the run from here on what is left and what follows

@@ -199,9 +199,16 @@ module _ (t : Table) (w : WellFormed t) (tag : ℕ) (ready : List ℕ) where
   -- the promises of the election, from its answer
   pub promised : {r : Answer} → Elects r
       → (r ≡ electOf (t .esi) es tag ready) × ((r .n ≡ ones (r .candidates)) × (NoneNamed es tag ready r × (r .number ≡ 0 → Chosen (t .esi) es tag ready r)))
-  promised (p, q) =
-      (p, (q, (subst (λ (x : Answer). NoneNamed es tag ready x) (sym p) (none-named (t .esi) es tag ready),
-      subst (λ (x : Answer). x .number ≡ 0 → Chosen (t .esi) es tag ready x) (sym p) chosen)))
+  promised (p, q) = (
+    p,
+    (
+      q,
+      (
+        subst (λ (x : Answer). NoneNamed es tag ready x) (sym p) (none-named (t .esi) es tag ready),
+        subst (λ (x : Answer). x .number ≡ 0 → Chosen (t .esi) es tag ready x) (sym p) chosen,
+      ),
+    ),
+  )
 
 -- RESERVED TAGS, as the code tests them
 pub tag-zero : (tag : ℕ) → tag ≡ 0 → reservedTag tag ≡ true

@@ -3,7 +3,7 @@
 use address::Address;
 use community::Election;
 use layout::MAX_ROUTES;
-use layout::WORDS;
+pub use layout::WORDS;
 use route::Checked;
 use rows::Found;
 ghost use mathlib.Core.Path.{_≡_};

@@ -1,7 +1,8 @@
 -- `turn` meets its contract: what is left fits into the block, and the table is one that the calls made. Assumes nothing.
+use native.Mathlib.Omega.{arith}
 use mathlib.Core.Path.{sym}
 use lib.Seq.{length-take-le}
-use Rattle.blocks.proofs.Blocks.{left-within}
+use Rattle.blocks.proofs.Blocks.{left-short}
 use borrow.Author.Needs.{needs}
 use Rattle.bench.proofs.turn.Statement.{statement}
 use Rattle.bench.proofs.turn.Tie as tie
@@ -13,7 +14,10 @@ slice-aggregate-write-lines : tie.Need-slice-aggregate-write-lines
 slice-aggregate-write-lines c = sym (length-take-le _ _ (slice-reshare-prefix-write-lines (c .before)))
 
 read-more-requires : tie.Need-read-more-requires
-read-more-requires c κs = left-within (c .before .before .before .before .before .before .before .before .before .before .before .before .before .take-block .ensures .0)
+read-more-requires c κs =
+    let block = c .before .before .before .before .before .before .before .before .before .before .before .before .before in
+    let start = block .before .before .before .before .before .before .before in
+    omega (arith, left-short (block .take-block .ensures .0) (c .before .before .enum-told3 .given .1), start .pre .0)
 
 pub turn-spec : {M : Type 1} → statement M
 turn-spec =

@@ -16,8 +16,9 @@ returns c =
     let p = k .before .before .before .before .before .before in
     let l = p .before .before .before .before in
     let a = l .before .before .before .before .args in
+    let known = l .before .before .slice-known2 .given in
     let ran = p .process .ensures in
-    (block-taken (a .filled) (l .least .result) (l .least .ensures) (ran .0) (ran .1 .0) (k .keep .ensures .0) (k .keep .ensures .1) (c .next-in .ensures), ran .1 .1)
+    (block-taken (a .filled) (l .least .result) (λ i. omega (arith, known i)) (l .least .ensures) (ran .0) (ran .1 .0) (k .keep .ensures .0) (k .keep .ensures .1) (c .next-in .ensures), ran .1 .1)
 
 pub take-block-spec : {M : Type 1} → statement M
 take-block-spec =
