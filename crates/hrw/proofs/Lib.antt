@@ -1,4 +1,4 @@
 -- Laws on the CRC, the digest and the weight for the crates above, and what they rest on.
-mod Entries
 mod Xor
+mod Entries
 pub mod Laws

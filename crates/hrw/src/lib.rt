@@ -1,7 +1,6 @@
 // Highest random weight (HRW): CRC-32, the digest of an Ethernet Tag on a segment, and the weight of an address.
 ghost use mathlib.Core.Path.{_≡_};
 ghost use Rattle.hrw.specs.Crc.{crcOctet, crcOver, crc32Of};
-ghost use Rattle.hrw.specs.Halves.{highEntries, lowEntries};
 ghost use Rattle.hrw.specs.Weight.{digestOf, weightOf};
 
 mod table;
@@ -20,34 +19,28 @@ const INCREMENT: u64 = 12345;
 const MODULUS: u64 = 2147483648;
 
 // The CRC register after the octet x, from the register 0: the entries of its halves.
-fn after_octet(x: u8, highs: &[u32; 16], lows: &[u32; 16]) -> u32
-    requires { ⌜ (now highs ≡ highEntries) × (now lows ≡ lowEntries) ⌝ }
+fn after_octet(x: u8) -> u32
     ensures { λ r. ⌜ r ≡ crcOctet 0 x ⌝ }
 {
-    let high = (x / 16) as usize;
-    let low = (x % 16) as usize;
-    highs[high] ^ lows[low]
+    table::of_high_half(x / 16) ^ table::of_low_half(x % 16)
 }
 
-// The CRC register after one octet more, by the two tables.
-fn crc_octet(state: u32, x: u8, highs: &[u32; 16], lows: &[u32; 16]) -> u32
-    requires { ⌜ (now highs ≡ highEntries) × (now lows ≡ lowEntries) ⌝ }
+// The CRC register after one octet more.
+fn crc_octet(state: u32, x: u8) -> u32
     ensures { λ r. ⌜ r ≡ crcOctet state x ⌝ }
 {
     let mixed = state ^ (x as u32);
-    (mixed / 256) ^ after_octet((mixed % 256) as u8, highs, lows)
+    (mixed / 256) ^ after_octet((mixed % 256) as u8)
 }
 
 // The CRC register after the octets of s, from the register handed in: a CRC of several pieces goes on from one to the next.
 pub fn crc_over(state: u32, s: &[u8]) -> u32
     ensures { λ r. ⌜ r ≡ crcOver state (now (s .entry)) ⌝ }
 {
-    let highs = table::of_high_halves();
-    let lows = table::of_low_halves();
     let mut r = state;
     let mut i = 0;
     while i < s.len() {
-        r = crc_octet(r, s[i], &highs, &lows);
+        r = crc_octet(r, s[i]);
         i += 1;
     }
     r

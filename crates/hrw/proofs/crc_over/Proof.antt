@@ -3,6 +3,7 @@
 use Prim.Native.Nat.{ℕ, _+_, _-_, _≤_}
 use native.Mathlib.Omega.{arith}
 use mathlib.Core.Path.{_≡_, refl, _∙_, sym, ap}
+use borrow.Author.Needs.{needs}
 use lib.ListN.{length, drop}
 use Rattle.hrw.specs.Crc.{crcOver}
 use Rattle.hrw.proofs.Laws.{crcOver-next, crcOver-end}
@@ -10,43 +11,25 @@ use Rattle.hrw.proofs.crc_over.Statement.{statement}
 use Rattle.hrw.proofs.crc_over.Tie as tie
 
 abbrev Inv-loop : tie.InvT-loop
-Inv-loop state s highs lows r₀ i₀ r i = (i ≤ length s) × (crcOver r (drop i s) ≡ crcOver state s)
+Inv-loop state s r₀ i₀ r i = (i ≤ length s) × (crcOver r (drop i s) ≡ crcOver state s)
 
 abbrev μ-loop : tie.MeasureT-loop
-μ-loop state s highs lows r₀ i₀ r i = length s - i
-
-of-high-halves-requires : tie.Need-of-high-halves-requires Inv-loop μ-loop
-of-high-halves-requires c κs = tt
-
-of-low-halves-requires : tie.Need-of-low-halves-requires Inv-loop μ-loop
-of-low-halves-requires c κs = tt
+μ-loop state s r₀ i₀ r i = length s - i
 
 loop-holds : tie.Need-loop-holds Inv-loop μ-loop
 loop-holds c = (omega arith, refl)
 
-shared-slice-read-crc-octet : tie.Need-shared-slice-read-crc-octet Inv-loop μ-loop
-shared-slice-read-crc-octet c = omega arith
-
-crc-octet-requires : tie.Need-crc-octet-requires Inv-loop μ-loop
-crc-octet-requires c κs = let lows = c .before .before .before .before .before in (lows .before .of-high-halves .ensures, lows .of-low-halves .ensures)
-
-add-i : tie.Need-add-i Inv-loop μ-loop
-add-i c = omega arith
-
-loop-less : tie.Need-loop-less Inv-loop μ-loop
-loop-less c = omega arith
-
 loop-again : tie.Need-loop-again Inv-loop μ-loop
 loop-again c =
-    let turn = c .before .before .before .before .before in
-    let s = turn .before .before .before .before .args .s .now in
+    let turn = c .before .before .before in
+    let s = turn .before .before .args .s .now in
     let l = turn .loop in
     (omega arith, ap (λ (r : ℕ). crcOver r (drop (l .i + 1) s)) (c .crc-octet .ensures) ∙ sym (crcOver-next (l .r) s (l .i) (omega arith)) ∙ l .inv .1)
 
 returns : tie.Need-returns Inv-loop μ-loop
 returns c =
     let turn = c .before in
-    sym (crcOver-end (turn .loop .r) (turn .before .before .before .before .args .s .now) (turn .loop .i) (omega arith)) ∙ turn .loop .inv .1
+    sym (crcOver-end (turn .loop .r) (turn .before .before .args .s .now) (turn .loop .i) (omega arith)) ∙ turn .loop .inv .1
 
 pub crc-over-spec : {M : Type 1} → statement M
 crc-over-spec =
@@ -54,12 +37,10 @@ crc-over-spec =
     (tie.spec
     Inv-loop
     μ-loop
-    of-high-halves-requires
-    of-low-halves-requires
     loop-holds
-    shared-slice-read-crc-octet
-    crc-octet-requires
-    add-i
-    loop-less
+    (λ c. omega arith)
+    (λ c κs. search needs)
+    (λ c. omega arith)
+    (λ c. omega arith)
     loop-again
     returns)

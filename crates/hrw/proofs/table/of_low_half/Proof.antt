@@ -1,0 +1,26 @@
+-- `of_low_half` meets its contract: each arm is an entry of the computed table. Assumes nothing.
+use native.Mathlib.Omega.{arith}
+use Rattle.hrw.proofs.Entries.{low-entry, last-arm}
+use Rattle.hrw.proofs.table.of_low_half.Statement.{statement}
+use Rattle.hrw.proofs.table.of_low_half.Tie as tie
+
+pub of-low-half-spec : {M : Type 1} → statement M
+of-low-half-spec =
+    tie.close
+    (tie.spec
+    (λ c. low-entry _ 0 (omega arith) (omega arith))
+    (λ c. low-entry _ 1 (omega arith) (omega arith))
+    (λ c. low-entry _ 2 (omega arith) (omega arith))
+    (λ c. low-entry _ 3 (omega arith) (omega arith))
+    (λ c. low-entry _ 4 (omega arith) (omega arith))
+    (λ c. low-entry _ 5 (omega arith) (omega arith))
+    (λ c. low-entry _ 6 (omega arith) (omega arith))
+    (λ c. low-entry _ 7 (omega arith) (omega arith))
+    (λ c. low-entry _ 8 (omega arith) (omega arith))
+    (λ c. low-entry _ 9 (omega arith) (omega arith))
+    (λ c. low-entry _ 10 (omega arith) (omega arith))
+    (λ c. low-entry _ 11 (omega arith) (omega arith))
+    (λ c. low-entry _ 12 (omega arith) (omega arith))
+    (λ c. low-entry _ 13 (omega arith) (omega arith))
+    (λ c. low-entry _ 14 (omega arith) (omega arith))
+    (λ c. low-entry _ 15 (last-arm _ (c .before .pre) (c .match .rest)) (omega arith)))
