@@ -50,9 +50,6 @@ returns-2 c =
     let s = c .before .before in
     (refused-high (s .args .preference) (s .args .step) (ap (λ (v : ℤ). ltZ (pos 65535) v) (sym (step-is s)) ∙ c .if2 .taken), promised s)
 
-cast-sum : tie.Need-cast-sum
-cast-sum c = search needs
-
 -- past the two tests the step is one
 between : (c : tie.Else2) → isStep (c .before .before .args .step) ≡ true
 between c =
@@ -68,9 +65,6 @@ returns-3 c =
     let s = c .before .before .before in
     let e = between (c .before) in
     (stops-low (s .args .preference) (s .args .step) e (ap (λ (v : ℤ). ltZ v (pos 0)) (sym (sum-is s e)) ∙ c .if3 .taken), promised s)
-
-cast-if4 : tie.Need-cast-if4
-cast-if4 c = search needs
 
 returns-4 : tie.Need-returns-4
 returns-4 c =
@@ -94,4 +88,4 @@ returns-5 c =
     )
 
 pub add-step-spec : {M : Type 1} → statement M
-add-step-spec = tie.close (tie.spec returns returns-2 cast-sum add-sum returns-3 cast-if4 returns-4 cast-between returns-5)
+add-step-spec = tie.close (tie.spec returns returns-2 (λ c. search needs) add-sum returns-3 (λ c. search needs) returns-4 cast-between returns-5)

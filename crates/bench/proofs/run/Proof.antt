@@ -14,20 +14,11 @@ Inv-loop block₀ out₀ t₀ work₀ turns₀ block out t work turns = (length 
 abbrev μ-loop : tie.MeasureT-loop
 μ-loop block₀ out₀ t₀ work₀ turns₀ block out t work turns = turns
 
-start-requires : tie.Need-start-requires Inv-loop μ-loop
-start-requires c κs = tt
-
 loop-holds : tie.Need-loop-holds Inv-loop μ-loop
 loop-holds c = (refl, refl, c .before .start .ensures .1 .1)
 
 slice-aggregate-turn : tie.Need-slice-aggregate-turn Inv-loop μ-loop
 slice-aggregate-turn c = sym (length-valid _ (c .before .before .before .loop .inv .2))
-
-returns : tie.Need-returns Inv-loop μ-loop
-returns c = tt
-
-returns-2 : tie.Need-returns-2 Inv-loop μ-loop
-returns-2 c = tt
 
 pub run-spec : {M : Type 1} → statement M
 run-spec =
@@ -35,7 +26,7 @@ run-spec =
     (tie.spec
     Inv-loop
     μ-loop
-    start-requires
+    (λ c κs. tt)
     loop-holds
     slice-aggregate-turn
     (λ c κs. search needs)
@@ -44,7 +35,7 @@ run-spec =
     (λ c. search needs)
     (λ c. search needs)
     (λ c. search needs)
-    returns
+    (λ c. tt)
     (λ c. search needs)
     (λ c. search needs)
-    returns-2)
+    (λ c. tt))

@@ -19,15 +19,6 @@ returns c = list-long _ (omega (arith, c .if1 .taken))
 returns-2 : tie.Need-returns-2
 returns-2 c = list-odd _ (c .if2 .taken)
 
-find-requires : tie.Need-find-requires
-find-requires c κs = search needs
-
-enum-known-first : tie.Need-enum-known-first
-enum-known-first c = search needs
-
-enum-told : tie.Need-enum-told
-enum-told c = search needs
-
 returns-3 : tie.Need-returns-3
 returns-3 c =
     let found = c .before .before in
@@ -53,12 +44,6 @@ find-requires-2 c κs =
     let s = now (found .before .before .before .before .args .s) in
     let f = subst (λ (p : Place). Found s 0 p) (told .first .given .1) (found .find .ensures) in
     (omega arith, omega (arith, f .1), omega (arith, f .0))
-
-enum-told-2 : tie.Need-enum-told-2
-enum-told-2 c = search needs
-
-enum-told-3 : tie.Need-enum-told-3
-enum-told-3 c = search needs
 
 returns-4 : tie.Need-returns-4
 returns-4 c =
@@ -92,14 +77,14 @@ read-list-spec =
     (tie.spec
     returns
     returns-2
-    find-requires
-    enum-known-first
-    enum-told
+    (λ c κs. search needs)
+    (λ c. search needs)
+    (λ c. search needs)
     returns-3
     read-at-requires
     add-find
     find-requires-2
-    enum-told-2
-    enum-told-3
+    (λ c. search needs)
+    (λ c. search needs)
     returns-4
     returns-5)

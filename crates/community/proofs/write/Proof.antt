@@ -12,30 +12,6 @@ returns c = wrote-high _ _ _ _ _ (omega (arith, c .if1 .taken))
 returns-2 : tie.Need-returns-2
 returns-2 c = wrote-short _ _ _ _ _ (omega (arith, c .before .if1 .left)) (omega (arith, c .if2 .taken))
 
-under-requires : tie.Need-under-requires
-under-requires c κs = search needs
-
-capabilities-requires : tie.Need-capabilities-requires
-capabilities-requires c κs = search needs
-
-of-u16-requires : tie.Need-of-u16-requires
-of-u16-requires c κs = search needs
-
-array-read-t15 : tie.Need-array-read-t15
-array-read-t15 c = search needs
-
-array-read-t18 : tie.Need-array-read-t18
-array-read-t18 c = search needs
-
-slice-aggregate-store : tie.Need-slice-aggregate-store
-slice-aggregate-store c = search needs
-
-store-requires : tie.Need-store-requires
-store-requires c κs = search needs
-
-same-length : tie.Need-same-length
-same-length c = search needs
-
 returns-3 : tie.Need-returns-3
 returns-3 c =
     let stored = c .before .before in
@@ -52,12 +28,12 @@ write-spec =
     (tie.spec
     returns
     returns-2
-    under-requires
-    capabilities-requires
-    of-u16-requires
-    array-read-t15
-    array-read-t18
-    slice-aggregate-store
-    store-requires
-    same-length
+    (λ c κs. search needs)
+    (λ c κs. search needs)
+    (λ c κs. search needs)
+    (λ c. search needs)
+    (λ c. search needs)
+    (λ c. search needs)
+    (λ c κs. search needs)
+    (λ c. search needs)
     returns-3)

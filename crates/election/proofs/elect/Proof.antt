@@ -5,16 +5,10 @@ use Rattle.election.proofs.Laws.{promised, elects-10, elects-11, tag-ze
 use Rattle.election.proofs.elect.Statement.{statement}
 use Rattle.election.proofs.elect.Tie as tie
 
-refusal-requires : tie.Need-refusal-requires
-refusal-requires c κs = search needs
-
 returns : tie.Need-returns
 returns c =
     let start = c .before .before .before .before in
     rw (c .refusal .ensures) (promised (tableIn (start .args .t .now)) (start .pre .sound) _ _ (elects-10 (tableIn (start .args .t .now)) (start .pre .sound) _ _ (tag-zero _ (c .before .if1 .taken))))
-
-refusal-requires-2 : tie.Need-refusal-requires-2
-refusal-requires-2 c κs = search needs
 
 returns-2 : tie.Need-returns-2
 returns-2 c =
@@ -22,18 +16,12 @@ returns-2 c =
     let start = first .before .before .before in
     rw (c .refusal2 .ensures) (promised (tableIn (start .args .t .now)) (start .pre .sound) _ _ (elects-10 (tableIn (start .args .t .now)) (start .pre .sound) _ _ (tag-last _ (first .if1 .left) (c .before .if2 .taken))))
 
-refusal-requires-3 : tie.Need-refusal-requires-3
-refusal-requires-3 c κs = search needs
-
 returns-3 : tie.Need-returns-3
 returns-3 c =
     let second = c .before .before in
     let first = second .before in
     let start = first .before .before .before in
     rw (c .refusal3 .ensures) (promised (tableIn (start .args .t .now)) (start .pre .sound) _ _ (elects-11 (tableIn (start .args .t .now)) (start .pre .sound) _ _ (tag-right _ (first .if1 .left) (second .if2 .left)) (c .before .if3 .taken)))
-
-elect-accepted-requires : tie.Need-elect-accepted-requires
-elect-accepted-requires c κs = search needs
 
 returns-4 : tie.Need-returns-4
 returns-4 c =
@@ -48,11 +36,11 @@ pub elect-spec : {M : Type 1} → statement M
 elect-spec =
     tie.close
     (tie.spec
-    refusal-requires
+    (λ c κs. search needs)
     returns
-    refusal-requires-2
+    (λ c κs. search needs)
     returns-2
-    refusal-requires-3
+    (λ c κs. search needs)
     returns-3
-    elect-accepted-requires
+    (λ c κs. search needs)
     returns-4)

@@ -6,17 +6,11 @@ use Rattle.esi.proofs.Digits.{digit-decimal, digit-letter}
 use Rattle.esi.proofs.digit_of.Statement.{statement}
 use Rattle.esi.proofs.digit_of.Tie as tie
 
-add-result : tie.Need-add-result
-add-result c = search needs
-
 returns : tie.Need-returns
 returns c = sym (digit-decimal (c .before .args .n) (omega arith))
-
-add-result-2 : tie.Need-add-result-2
-add-result-2 c = search needs
 
 returns-2 : tie.Need-returns-2
 returns-2 c = sym (digit-letter (c .before .args .n) (omega arith))
 
 pub digit-of-spec : {M : Type 1} → statement M
-digit-of-spec = tie.close (tie.spec add-result returns add-result-2 returns-2)
+digit-of-spec = tie.close (tie.spec (λ c. search needs) returns (λ c. search needs) returns-2)

@@ -6,12 +6,6 @@ use Rattle.esi.proofs.Digits.{value-decimal, value-lower, value-upper, 
 use Rattle.esi.proofs.digit_value.Statement.{statement}
 use Rattle.esi.proofs.digit_value.Tie as tie
 
-sub-result : tie.Need-sub-result
-sub-result c = search needs
-
-sub-result-2 : tie.Need-sub-result-2
-sub-result-2 c = search needs
-
 returns : tie.Need-returns
 returns c = sym (value-decimal (c .before .before .args .c) (omega arith) (omega arith))
 
@@ -45,8 +39,8 @@ pub digit-value-spec : {M : Type 1} → statement M
 digit-value-spec =
     tie.close
     (tie.spec
-    sub-result
-    sub-result-2
+    (λ c. search needs)
+    (λ c. search needs)
     returns
     returns-2
     returns-3

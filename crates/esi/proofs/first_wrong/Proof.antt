@@ -26,12 +26,6 @@ returns c =
     let at = c .before .before in
     sym (at .loop .inv .1 ∙ wrong-end (take 29 (at .before .before .args .text .now)) (at .loop .i) (simp length-take (omega arith)))
 
-shared-slice-read-right-at : tie.Need-shared-slice-read-right-at Inv-loop μ-loop
-shared-slice-read-right-at c = omega arith
-
-right-at-requires : tie.Need-right-at-requires Inv-loop μ-loop
-right-at-requires c κs = search needs
-
 returns-2 : tie.Need-returns-2 Inv-loop μ-loop
 returns-2 c =
     let at = c .before .before .before .before .before in
@@ -40,12 +34,6 @@ returns-2 c =
     (at .loop .inv .1
     ∙ wrong-here (take 29 t) (at .loop .i) (simp length-take (omega arith))
     (rw (getD-take 29 t (at .loop .i) 0 (omega arith)) (sym (c .before .right-at .ensures) ∙ not-true _ (c .if2 .taken))))
-
-add-i : tie.Need-add-i Inv-loop μ-loop
-add-i c = omega arith
-
-loop-less : tie.Need-loop-less Inv-loop μ-loop
-loop-less c = omega arith
 
 loop-again : tie.Need-loop-again Inv-loop μ-loop
 loop-again c =
@@ -70,10 +58,10 @@ first-wrong-spec =
     μ-loop
     loop-holds
     returns
-    shared-slice-read-right-at
-    right-at-requires
+    (λ c. omega arith)
+    (λ c κs. search needs)
     returns-2
-    add-i
-    loop-less
+    (λ c. omega arith)
+    (λ c. omega arith)
     loop-again
     returns-3)

@@ -9,16 +9,10 @@ use Rattle.esi.proofs.is_reserved.Tie as tie
 returns : tie.Need-returns
 returns c = sym (reserved-length (c .before .before .args .esi .now) (omega arith))
 
-all-are-requires : tie.Need-all-are-requires
-all-are-requires c κs = search needs
-
 returns-2 : tie.Need-returns-2
 returns-2 c =
     let s = c .before .before .before .before .args .esi .now in
     sym (reserved-all-zero s (omega arith) (sym (c .before .all-are .ensures) ∙ c .if2 .taken))
-
-all-are-requires-2 : tie.Need-all-are-requires-2
-all-are-requires-2 c κs = search needs
 
 returns-3 : tie.Need-returns-3
 returns-3 c =
@@ -27,4 +21,4 @@ returns-3 c =
 
 pub is-reserved-spec : {M : Type 1} → statement M
 is-reserved-spec =
-    tie.close (tie.spec returns all-are-requires returns-2 all-are-requires-2 returns-3)
+    tie.close (tie.spec returns (λ c κs. search needs) returns-2 (λ c κs. search needs) returns-3)

@@ -23,29 +23,14 @@ module _ (t : List ℕ) (k : ℕ) (p : (wellFormed t ≡ true) × (k < 10)) wher
   low : digitValue (getD t (3 * k + 1) 0) < 16
   low = low-value t (well-formed-right t (p .0)) k (p .1)
 
-mul-digit-value : tie.Need-mul-digit-value
-mul-digit-value c = search needs
-
 shared-slice-read-digit-value : tie.Need-shared-slice-read-digit-value
 shared-slice-read-digit-value c = omega (arith, long _ _ (c .before .before .pre))
-
-digit-value-requires : tie.Need-digit-value-requires
-digit-value-requires c κs = search needs
 
 mul-result : tie.Need-mul-result
 mul-result c = omega (arith, c .digit-value .ensures, high _ _ (c .before .before .before .pre))
 
-mul-digit-value-2 : tie.Need-mul-digit-value-2
-mul-digit-value-2 c = search needs
-
-add-digit-value : tie.Need-add-digit-value
-add-digit-value c = search needs
-
 shared-slice-read-digit-value-2 : tie.Need-shared-slice-read-digit-value-2
 shared-slice-read-digit-value-2 c = omega (arith, long _ _ (c .before .before .before .before .pre))
-
-digit-value-requires-2 : tie.Need-digit-value-requires-2
-digit-value-requires-2 c κs = search needs
 
 add-result : tie.Need-add-result
 add-result c = omega (arith, c .before .before .digit-value .ensures, c .digit-value2 .ensures, high _ _ (c .before .before .before .before .before .pre), low _ _ (c .before .before .before .before .before .pre))
@@ -58,13 +43,13 @@ pub octet-at-spec : {M : Type 1} → statement M
 octet-at-spec =
     tie.close
     (tie.spec
-    mul-digit-value
+    (λ c. search needs)
     shared-slice-read-digit-value
-    digit-value-requires
+    (λ c κs. search needs)
     mul-result
-    mul-digit-value-2
-    add-digit-value
+    (λ c. search needs)
+    (λ c. search needs)
     shared-slice-read-digit-value-2
-    digit-value-requires-2
+    (λ c κs. search needs)
     add-result
     returns)

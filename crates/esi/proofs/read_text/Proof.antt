@@ -21,20 +21,11 @@ done t a o e = (e, (rw e (read-fault t), rw e (text-of-read t o)))
 formed : (t : List ℕ) {w : ℕ} → w ≡ firstWrong t → length t ≡ 29 → w ≡ 29 → wellFormed t ≡ true
 formed t e n h = well-formed t n (sym e ∙ h)
 
-first-wrong-requires : tie.Need-first-wrong-requires
-first-wrong-requires c κs = search needs
-
-refusal-requires : tie.Need-refusal-requires
-refusal-requires c κs = search needs
-
 returns : tie.Need-returns
 returns c =
     let t = c .before .before .before .before .args .text .now in
     done t (c .refusal .result) (λ i. omega (arith, c .before .before .before .shared-slice-known .given i))
     (c .refusal .ensures ∙ ap (refused 13) (c .before .before .first-wrong .ensures) ∙ sym (read-malformed t (malformed-length t (omega arith))))
-
-refusal-requires-2 : tie.Need-refusal-requires-2
-refusal-requires-2 c κs = search needs
 
 returns-2 : tie.Need-returns-2
 returns-2 c =
@@ -44,15 +35,6 @@ returns-2 c =
 
 esi-in-requires : tie.Need-esi-in-requires
 esi-in-requires c κs = formed _ (c .before .before .first-wrong .ensures) (omega arith) (c .if2 .left)
-
-slice-aggregate-is-reserved : tie.Need-slice-aggregate-is-reserved
-slice-aggregate-is-reserved c = search needs
-
-is-reserved-requires : tie.Need-is-reserved-requires
-is-reserved-requires c κs = search needs
-
-refusal-requires-3 : tie.Need-refusal-requires-3
-refusal-requires-3 c κs = search needs
 
 returns-3 : tie.Need-returns-3
 returns-3 c =
@@ -78,14 +60,14 @@ pub read-text-spec : {M : Type 1} → statement M
 read-text-spec =
     tie.close
     (tie.spec
-    first-wrong-requires
-    refusal-requires
+    (λ c κs. search needs)
+    (λ c κs. search needs)
     returns
-    refusal-requires-2
+    (λ c κs. search needs)
     returns-2
     esi-in-requires
-    slice-aggregate-is-reserved
-    is-reserved-requires
-    refusal-requires-3
+    (λ c. search needs)
+    (λ c κs. search needs)
+    (λ c κs. search needs)
     returns-3
     returns-4)

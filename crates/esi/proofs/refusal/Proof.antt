@@ -3,8 +3,5 @@ use mathlib.Core.Path.{refl}
 use Rattle.esi.proofs.refusal.Statement.{statement}
 use Rattle.esi.proofs.refusal.Tie as tie
 
-returns : tie.Need-returns
-returns c = refl
-
 pub refusal-spec : {M : Type 1} → statement M
-refusal-spec = tie.close (tie.spec returns)
+refusal-spec = tie.close (tie.spec (λ c. refl))

@@ -9,13 +9,10 @@ use Rattle.esi.proofs.right_at.Tie as tie
 returns : tie.Need-returns
 returns c = sym (right-colon (c .before .args .i) (c .before .args .c) (c .if1 .taken))
 
-digit-value-requires : tie.Need-digit-value-requires
-digit-value-requires c κs = search needs
-
 returns-2 : tie.Need-returns-2
 returns-2 c =
     let at = c .before .before .args in
     rw (c .digit-value .ensures) (sym (right-digit (at .i) (at .c) (omega arith)))
 
 pub right-at-spec : {M : Type 1} → statement M
-right-at-spec = tie.close (tie.spec returns digit-value-requires returns-2)
+right-at-spec = tie.close (tie.spec returns (λ c κs. search needs) returns-2)

@@ -10,9 +10,6 @@ use Rattle.esi.proofs.text_at.Tie as tie
 returns : tie.Need-returns
 returns c = sym (text-colon (c .before .before .args .esi .now) (c .before .before .args .i) (c .if1 .taken))
 
-shared-slice-read-octet : tie.Need-shared-slice-read-octet
-shared-slice-read-octet c = search needs
-
 digit-of-requires : tie.Need-digit-of-requires
 digit-of-requires c κs = omega (arith, c .before .shared-slice-known2 .given (c .before .before .before .before .args .i / 3))
 
@@ -20,9 +17,6 @@ returns-2 : tie.Need-returns-2
 returns-2 c =
     let at = c .before .before .before .before .before .args in
     c .digit-of .ensures ∙ sym (text-high (at .esi .now) (at .i) (omega arith))
-
-digit-of-requires-2 : tie.Need-digit-of-requires-2
-digit-of-requires-2 c κs = search needs
 
 returns-3 : tie.Need-returns-3
 returns-3 c =
@@ -34,8 +28,8 @@ text-at-spec =
     tie.close
     (tie.spec
     returns
-    shared-slice-read-octet
+    (λ c. search needs)
     digit-of-requires
     returns-2
-    digit-of-requires-2
+    (λ c κs. search needs)
     returns-3)

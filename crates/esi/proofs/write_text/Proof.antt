@@ -34,9 +34,6 @@ module _ (d s : List ℕ) where
       let w : l ≡ textWritten d s = e ∙ sym (written-text d s n) in
       (sym n, (w, λ z. rw (w, take-written d s n) (read-of-text s o h)))
 
-is-reserved-requires : tie.Need-is-reserved-requires Inv-loop μ-loop
-is-reserved-requires c κs = search needs
-
 returns : tie.Need-returns Inv-loop μ-loop
 returns c =
     let at = c .before .before .before .before .args in
@@ -54,15 +51,6 @@ text-at-requires : tie.Need-text-at-requires Inv-loop μ-loop
 text-at-requires c κs =
     let else = c .before .before .before in
     (length-not-reserved _ (sym (else .before .is-reserved .ensures) ∙ else .if1 .left), omega arith)
-
-slice-write-buf : tie.Need-slice-write-buf Inv-loop μ-loop
-slice-write-buf c = omega arith
-
-add-place : tie.Need-add-place Inv-loop μ-loop
-add-place c = omega arith
-
-loop-less : tie.Need-loop-less Inv-loop μ-loop
-loop-less c = omega arith
 
 loop-again : tie.Need-loop-again Inv-loop μ-loop
 loop-again c =
@@ -93,14 +81,14 @@ write-text-spec =
     (tie.spec
     Inv-loop
     μ-loop
-    is-reserved-requires
+    (λ c κs. search needs)
     returns
     returns-2
     loop-holds
     text-at-requires
-    slice-write-buf
-    add-place
-    loop-less
+    (λ c. omega arith)
+    (λ c. omega arith)
+    (λ c. omega arith)
     loop-again
     same-length
     returns-3)

@@ -5,11 +5,8 @@ use borrow.Author.Needs.{needs}
 use Rattle.exports.proofs.segment_elect.Statement.{statement}
 use Rattle.exports.proofs.segment_elect.Tie as tie
 
-elect-requires : tie.Need-elect-requires
-elect-requires c κs = search needs
-
 returns : tie.Need-returns
 returns c = ap answerOf (c .elect .ensures .0)
 
 pub segment-elect-spec : {M : Type 1} → statement M
-segment-elect-spec = tie.close (tie.spec elect-requires returns)
+segment-elect-spec = tie.close (tie.spec (λ c κs. search needs) returns)

@@ -5,11 +5,8 @@ use borrow.Author.Needs.{needs}
 use Rattle.exports.proofs.segment_returning.Statement.{statement}
 use Rattle.exports.proofs.segment_returning.Tie as tie
 
-returning-requires : tie.Need-returning-requires
-returning-requires c κs = search needs
-
 returns : tie.Need-returns
 returns c = ap sentOf (c .returning .ensures .0)
 
 pub segment-returning-spec : {M : Type 1} → statement M
-segment-returning-spec = tie.close (tie.spec returning-requires returns)
+segment-returning-spec = tie.close (tie.spec (λ c κs. search needs) returns)

@@ -5,12 +5,6 @@ use Rattle.fsm.proofs.Laws.{driven-up, driven-else}
 use Rattle.fsm.proofs.drive.Statement.{statement}
 use Rattle.fsm.proofs.drive.Tie as tie
 
-next-requires : tie.Need-next-requires
-next-requires c κs = search needs
-
-starts-wait-requires : tie.Need-starts-wait-requires
-starts-wait-requires c κs = search needs
-
 returns : tie.Need-returns
 returns c =
     let asked = c .before in
@@ -26,4 +20,4 @@ returns-2 c =
     (sym (asked .starts-wait .ensures) ∙ c .if1 .left)
 
 pub drive-spec : {M : Type 1} → statement M
-drive-spec = tie.close (tie.spec next-requires starts-wait-requires returns returns-2)
+drive-spec = tie.close (tie.spec (λ c κs. search needs) (λ c κs. search needs) returns returns-2)

@@ -5,23 +5,11 @@ use Rattle.fsm.proofs.Laws.{numbered, refused}
 use Rattle.fsm.proofs.drive_number.Statement.{statement}
 use Rattle.fsm.proofs.drive_number.Tie as tie
 
-event-of-requires : tie.Need-event-of-requires
-event-of-requires c κs = search needs
-
-enum-known-e : tie.Need-enum-known-e
-enum-known-e c = search needs
-
-enum-told : tie.Need-enum-told
-enum-told c = search needs
-
 returns : tie.Need-returns
 returns c =
     let called = c .before .before in
     let s = called .before in
     refused (s .args .m) (s .args .event) (s .args .now) (sym (called .event-of .ensures) ∙ c .enum-told .given .1)
-
-drive-requires : tie.Need-drive-requires
-drive-requires c κs = search needs
 
 returns-2 : tie.Need-returns-2
 returns-2 c =
@@ -32,4 +20,4 @@ returns-2 c =
 
 pub drive-number-spec : {M : Type 1} → statement M
 drive-number-spec =
-    tie.close (tie.spec event-of-requires enum-known-e enum-told returns drive-requires returns-2)
+    tie.close (tie.spec (λ c κs. search needs) (λ c. search needs) (λ c. search needs) returns (λ c κs. search needs) returns-2)

@@ -5,12 +5,6 @@ use Rattle.fsm.proofs.Arms.{not-wait}
 use Rattle.fsm.proofs.is_due.Statement.{statement}
 use Rattle.fsm.proofs.is_due.Tie as tie
 
-enum-told : tie.Need-enum-told
-enum-told c = search needs
-
-waited-requires : tie.Need-waited-requires
-waited-requires c κs = search needs
-
 returns : tie.Need-returns
 returns c =
     let called = c .before in
@@ -21,4 +15,4 @@ returns-2 : tie.Need-returns-2
 returns-2 c = due-else (c .before .args .m) (c .before .args .now) (not-wait (c .before .args .m .state) (c .match .keys2))
 
 pub is-due-spec : {M : Type 1} → statement M
-is-due-spec = tie.close (tie.spec enum-told waited-requires returns returns-2)
+is-due-spec = tie.close (tie.spec (λ c. search needs) (λ c κs. search needs) returns returns-2)

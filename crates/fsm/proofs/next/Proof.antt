@@ -7,21 +7,6 @@ use Rattle.fsm.proofs.Laws.{cells, cell, rows, columns}
 use Rattle.fsm.proofs.next.Statement.{statement}
 use Rattle.fsm.proofs.next.Tie as tie
 
-state-number-requires : tie.Need-state-number-requires
-state-number-requires c κs = search needs
-
-cast-row : tie.Need-cast-row
-cast-row c = search needs
-
-event-number-requires : tie.Need-event-number-requires
-event-number-requires c κs = search needs
-
-cast-column : tie.Need-cast-column
-cast-column c = search needs
-
-mul-result : tie.Need-mul-result
-mul-result c = search needs
-
 index-1-result : tie.Need-index-1-result
 index-1-result c = rw (c .before .state-number .ensures) (rows (c .before .before .args .s))
 
@@ -39,11 +24,11 @@ pub next-spec : {M : Type 1} → statement M
 next-spec =
     tie.close
     (tie.spec
-    state-number-requires
-    cast-row
-    event-number-requires
-    cast-column
-    mul-result
+    (λ c κs. search needs)
+    (λ c. search needs)
+    (λ c κs. search needs)
+    (λ c. search needs)
+    (λ c. search needs)
     index-1-result
     index-2-result
     returns)

@@ -8,12 +8,6 @@ use Rattle.fsm.proofs.Arms.{not-init, not-up}
 use Rattle.fsm.proofs.starts_wait.Statement.{statement}
 use Rattle.fsm.proofs.starts_wait.Tie as tie
 
-enum-told : tie.Need-enum-told
-enum-told c = search needs
-
-enum-told-2 : tie.Need-enum-told-2
-enum-told-2 c = search needs
-
 returns : tie.Need-returns
 unfolding starts
 returns c = sym (ap₂ starts (c .before .before .enum-told .given .1) (c .enum-told2 .given .1))
@@ -31,4 +25,4 @@ returns-3 c =
     sym (ap (λ b. b && eqb (eventNumber (s .args .e)) 0) (not-init (s .args .s) (c .match .keys2)))
 
 pub starts-wait-spec : {M : Type 1} → statement M
-starts-wait-spec = tie.close (tie.spec enum-told enum-told-2 returns returns-2 returns-3)
+starts-wait-spec = tie.close (tie.spec (λ c. search needs) (λ c. search needs) returns returns-2 returns-3)

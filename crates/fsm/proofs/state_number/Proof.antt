@@ -5,18 +5,6 @@ use Rattle.fsm.specs.Machine.{stateNumber}
 use Rattle.fsm.proofs.state_number.Statement.{statement}
 use Rattle.fsm.proofs.state_number.Tie as tie
 
-enum-told : tie.Need-enum-told
-enum-told c = search needs
-
-enum-told-2 : tie.Need-enum-told-2
-enum-told-2 c = search needs
-
-enum-told-3 : tie.Need-enum-told-3
-enum-told-3 c = search needs
-
-enum-told-4 : tie.Need-enum-told-4
-enum-told-4 c = search needs
-
 returns : tie.Need-returns
 returns c = sym (ap stateNumber (c .enum-told .given .1))
 
@@ -31,4 +19,4 @@ returns-4 c = sym (ap stateNumber (c .enum-told4 .given .1))
 
 pub state-number-spec : {M : Type 1} → statement M
 state-number-spec =
-    tie.close (tie.spec enum-told enum-told-2 enum-told-3 enum-told-4 returns returns-2 returns-3 returns-4)
+    tie.close (tie.spec (λ c. search needs) (λ c. search needs) (λ c. search needs) (λ c. search needs) returns returns-2 returns-3 returns-4)

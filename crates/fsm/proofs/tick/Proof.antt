@@ -5,12 +5,6 @@ use Rattle.fsm.proofs.Laws.{ticked, unticked}
 use Rattle.fsm.proofs.tick.Statement.{statement}
 use Rattle.fsm.proofs.tick.Tie as tie
 
-is-due-requires : tie.Need-is-due-requires
-is-due-requires c κs = search needs
-
-drive-requires : tie.Need-drive-requires
-drive-requires c κs = search needs
-
 returns : tie.Need-returns
 returns c =
     let tested = c .before in
@@ -23,4 +17,4 @@ returns-2 c =
     unticked (s .args .m) (s .args .now) (sym (c .before .is-due .ensures) ∙ c .if1 .left)
 
 pub tick-spec : {M : Type 1} → statement M
-tick-spec = tie.close (tie.spec is-due-requires drive-requires returns returns-2)
+tick-spec = tie.close (tie.spec (λ c κs. search needs) (λ c κs. search needs) returns returns-2)

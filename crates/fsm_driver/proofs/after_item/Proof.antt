@@ -7,9 +7,6 @@ use Rattle.fsm_driver.specs.Items.{afterItem}
 use Rattle.fsm_driver.proofs.after_item.Statement.{statement}
 use Rattle.fsm_driver.proofs.after_item.Tie as tie
 
-drive-number-requires : tie.Need-drive-number-requires
-drive-number-requires c κs = search needs
-
 returns : tie.Need-returns
 unfolding afterItem
 returns c =
@@ -17,18 +14,12 @@ returns c =
     let kind = tested .before .args .kind in
     rw (eq-eqb kind 0 (tested .if1 .taken)) (c .drive-number .ensures)
 
-tick-requires : tie.Need-tick-requires
-tick-requires c κs = search needs
-
 returns-2 : tie.Need-returns-2
 unfolding afterItem
 returns-2 c =
     let tested = c .before in
     let kind = tested .before .before .args .kind in
     rw (ne-eqb kind 0 (tested .before .if1 .left), eq-eqb kind 1 (tested .if2 .taken)) (ap (λ (m : Machine). record { number = 0; machine = m }) (c .tick .ensures))
-
-make-requires : tie.Need-make-requires
-make-requires c κs = search needs
 
 returns-3 : tie.Need-returns-3
 unfolding afterItem
@@ -39,4 +30,4 @@ returns-3 c =
 
 pub after-item-spec : {M : Type 1} → statement M
 after-item-spec =
-    tie.close (tie.spec drive-number-requires returns tick-requires returns-2 make-requires returns-3)
+    tie.close (tie.spec (λ c κs. search needs) returns (λ c κs. search needs) returns-2 (λ c κs. search needs) returns-3)

@@ -7,12 +7,9 @@ use Rattle.hrw.specs.Crc.{allOnes, crc32Of}
 use Rattle.hrw.proofs.crc32.Statement.{statement}
 use Rattle.hrw.proofs.crc32.Tie as tie
 
-crc-over-requires : tie.Need-crc-over-requires
-crc-over-requires c κs = search needs
-
 returns : tie.Need-returns
 unfolding crc32Of
 returns c = ap (λ (n : ℕ). bitXor n allOnes) (c .crc-over .ensures)
 
 pub crc32-spec : {M : Type 1} → statement M
-crc32-spec = tie.close (tie.spec crc-over-requires returns)
+crc32-spec = tie.close (tie.spec (λ c κs. search needs) returns)

@@ -5,14 +5,8 @@ use borrow.Author.Needs.{needs}
 use Rattle.hrw.proofs.crc_octet.Statement.{statement}
 use Rattle.hrw.proofs.crc_octet.Tie as tie
 
-cast-after-octet : tie.Need-cast-after-octet
-cast-after-octet c = search needs
-
-after-octet-requires : tie.Need-after-octet-requires
-after-octet-requires c κs = search needs
-
 returns : tie.Need-returns
 returns c = rw (c .after-octet .ensures) (sym (crcOctet-parts (c .before .args .state) (c .before .args .x)))
 
 pub crc-octet-spec : {M : Type 1} → statement M
-crc-octet-spec = tie.close (tie.spec cast-after-octet after-octet-requires returns)
+crc-octet-spec = tie.close (tie.spec (λ c. search needs) (λ c κs. search needs) returns)

@@ -17,26 +17,8 @@ abbrev μ-loop : tie.MeasureT-loop
 loop-holds : tie.Need-loop-holds Inv-loop μ-loop
 loop-holds c = (omega arith, omega arith, refl)
 
-add-esi : tie.Need-add-esi Inv-loop μ-loop
-add-esi c = omega arith
-
-mul-esi : tie.Need-mul-esi Inv-loop μ-loop
-mul-esi c = omega arith
-
 shared-slice-read-esi : tie.Need-shared-slice-read-esi Inv-loop μ-loop
 shared-slice-read-esi c = let start = c .before .before .before in omega (arith, length-valid (start .args .t .now) (start .pre))
-
-cast-esi : tie.Need-cast-esi Inv-loop μ-loop
-cast-esi c = omega arith
-
-array-write-esi : tie.Need-array-write-esi Inv-loop μ-loop
-array-write-esi c = omega arith
-
-add-i : tie.Need-add-i Inv-loop μ-loop
-add-i c = omega arith
-
-loop-less : tie.Need-loop-less Inv-loop μ-loop
-loop-less c = omega arith
 
 loop-again : tie.Need-loop-again Inv-loop μ-loop
 loop-again c =
@@ -59,12 +41,12 @@ identifier-spec =
     Inv-loop
     μ-loop
     loop-holds
-    add-esi
-    mul-esi
+    (λ c. omega arith)
+    (λ c. omega arith)
     shared-slice-read-esi
-    cast-esi
-    array-write-esi
-    add-i
-    loop-less
+    (λ c. omega arith)
+    (λ c. omega arith)
+    (λ c. omega arith)
+    (λ c. omega arith)
     loop-again
     returns)

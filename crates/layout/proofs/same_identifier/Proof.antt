@@ -22,20 +22,11 @@ abbrev μ-loop : tie.MeasureT-loop
 loop-holds : tie.Need-loop-holds Inv-loop μ-loop
 loop-holds c = (omega arith, λ k h. absurd (omega arith))
 
-add-if1 : tie.Need-add-if1 Inv-loop μ-loop
-add-if1 c = omega arith
-
-mul-if1 : tie.Need-mul-if1 Inv-loop μ-loop
-mul-if1 c = omega arith
-
 shared-slice-read-if1 : tie.Need-shared-slice-read-if1 Inv-loop μ-loop
 shared-slice-read-if1 c = let start = c .before .before .before .before .before in omega (arith, length-valid (start .args .t .now) (start .pre .0))
 
 shared-slice-read-octet : tie.Need-shared-slice-read-octet Inv-loop μ-loop
 shared-slice-read-octet c = let start = c .before .before .before .before .before .before in omega (arith, start .pre .1)
-
-octet-requires : tie.Need-octet-requires Inv-loop μ-loop
-octet-requires c κs = search needs
 
 returns : tie.Need-returns Inv-loop μ-loop
 returns c =
@@ -44,12 +35,6 @@ returns c =
     let i = c .before .before .before .before .before .loop .i in
     let o = c .before .octet .ensures .0 in
     sym (same-differ (tableIn (a .t .now) .esi) (a .esi .now) (λ e. omega (arith, esi-word (a .t .now) (start .pre .0) i, ap (λ (l : List ℕ). getD l i 0) e, o)))
-
-add-i : tie.Need-add-i Inv-loop μ-loop
-add-i c = omega arith
-
-loop-less : tie.Need-loop-less Inv-loop μ-loop
-loop-less c = omega arith
 
 loop-again : tie.Need-loop-again Inv-loop μ-loop
 loop-again c =
@@ -72,13 +57,13 @@ same-identifier-spec =
     Inv-loop
     μ-loop
     loop-holds
-    add-if1
-    mul-if1
+    (λ c. omega arith)
+    (λ c. omega arith)
     shared-slice-read-if1
     shared-slice-read-octet
-    octet-requires
+    (λ c κs. search needs)
     returns
-    add-i
-    loop-less
+    (λ c. omega arith)
+    (λ c. omega arith)
     loop-again
     returns-2)

@@ -12,19 +12,10 @@ returns c =
     let a = c .before .args in
     put-refused (a .buf .now) (a .at) (a .x ∷ []) (omega arith)
 
-slice-write-buf : tie.Need-slice-write-buf
-slice-write-buf c = search needs
-
-add-result : tie.Need-add-result
-add-result c = search needs
-
-same-length : tie.Need-same-length
-same-length c = search needs
-
 returns-2 : tie.Need-returns-2
 returns-2 c =
     let a = c .before .args in
     put-one (a .buf .now) (a .at) (a .x) (omega arith)
 
 pub put-octet-spec : {M : Type 1} → statement M
-put-octet-spec = tie.close (tie.spec returns slice-write-buf add-result same-length returns-2)
+put-octet-spec = tie.close (tie.spec returns (λ c. search needs) (λ c. search needs) (λ c. search needs) returns-2)

@@ -22,39 +22,12 @@ loop-holds c =
     let l : length (a .text .now) ≡ 20 = c .pre in
     (omega arith, omega arith, l, omega arith, rw (drop-of-length-le (a .text .now) {i = 20} (omega arith)) (append-nil (decimal (a .n))))
 
-sub-i : tie.Need-sub-i Inv-loop μ-loop
-sub-i c = omega arith
-
-cast-text : tie.Need-cast-text Inv-loop μ-loop
-cast-text c = omega arith
-
-add-text : tie.Need-add-text Inv-loop μ-loop
-add-text c = omega arith
-
-slice-write-text : tie.Need-slice-write-text Inv-loop μ-loop
-slice-write-text c = omega arith
-
-loop-less : tie.Need-loop-less Inv-loop μ-loop
-loop-less c = omega arith
-
 loop-again : tie.Need-loop-again Inv-loop μ-loop
 loop-again c =
     let at = c .before .loop in
     let room = spell-room (at .i) (at .rest) (omega arith) (at .inv .3) in
     let l : length (at .text) ≡ 20 = at .inv .2 in
     (room .0, omega arith, simp length-set l, room .1, spell-more (at .text) (at .i) (at .rest) (omega arith) (omega arith) (omega arith) ∙ at .inv .4)
-
-sub-i-2 : tie.Need-sub-i-2 Inv-loop μ-loop
-sub-i-2 c = omega arith
-
-cast-text-2 : tie.Need-cast-text-2 Inv-loop μ-loop
-cast-text-2 c = omega arith
-
-add-text-2 : tie.Need-add-text-2 Inv-loop μ-loop
-add-text-2 c = omega arith
-
-slice-write-text-2 : tie.Need-slice-write-text-2 Inv-loop μ-loop
-slice-write-text-2 c = omega arith
 
 same-length : tie.Need-same-length Inv-loop μ-loop
 same-length c =
@@ -74,15 +47,15 @@ spell-spec =
     Inv-loop
     μ-loop
     loop-holds
-    sub-i
-    cast-text
-    add-text
-    slice-write-text
-    loop-less
+    (λ c. omega arith)
+    (λ c. omega arith)
+    (λ c. omega arith)
+    (λ c. omega arith)
+    (λ c. omega arith)
     loop-again
-    sub-i-2
-    cast-text-2
-    add-text-2
-    slice-write-text-2
+    (λ c. omega arith)
+    (λ c. omega arith)
+    (λ c. omega arith)
+    (λ c. omega arith)
     same-length
     returns)

@@ -6,45 +6,6 @@ use borrow.Author.Needs.{needs}
 use Rattle.lines.proofs.spell_dotted.Statement.{statement}
 use Rattle.lines.proofs.spell_dotted.Tie as tie
 
-of-u32-requires : tie.Need-of-u32-requires
-of-u32-requires c κs = search needs
-
-array-read-put-small : tie.Need-array-read-put-small
-array-read-put-small c = search needs
-
-put-small-requires : tie.Need-put-small-requires
-put-small-requires c κs = search needs
-
-put-octet-requires : tie.Need-put-octet-requires
-put-octet-requires c κs = search needs
-
-array-read-put-small-2 : tie.Need-array-read-put-small-2
-array-read-put-small-2 c = search needs
-
-put-small-requires-2 : tie.Need-put-small-requires-2
-put-small-requires-2 c κs = search needs
-
-put-octet-requires-2 : tie.Need-put-octet-requires-2
-put-octet-requires-2 c κs = search needs
-
-array-read-put-small-3 : tie.Need-array-read-put-small-3
-array-read-put-small-3 c = search needs
-
-put-small-requires-3 : tie.Need-put-small-requires-3
-put-small-requires-3 c κs = search needs
-
-put-octet-requires-3 : tie.Need-put-octet-requires-3
-put-octet-requires-3 c κs = search needs
-
-array-read-put-small-4 : tie.Need-array-read-put-small-4
-array-read-put-small-4 c = search needs
-
-put-small-requires-4 : tie.Need-put-small-requires-4
-put-small-requires-4 c κs = search needs
-
-same-length : tie.Need-same-length
-same-length c = search needs
-
 returns : tie.Need-returns
 returns c =
     let p7 = c .before .before in
@@ -70,17 +31,17 @@ pub spell-dotted-spec : {M : Type 1} → statement M
 spell-dotted-spec =
     tie.close
     (tie.spec
-    of-u32-requires
-    array-read-put-small
-    put-small-requires
-    put-octet-requires
-    array-read-put-small-2
-    put-small-requires-2
-    put-octet-requires-2
-    array-read-put-small-3
-    put-small-requires-3
-    put-octet-requires-3
-    array-read-put-small-4
-    put-small-requires-4
-    same-length
+    (λ c κs. search needs)
+    (λ c. search needs)
+    (λ c κs. search needs)
+    (λ c κs. search needs)
+    (λ c. search needs)
+    (λ c κs. search needs)
+    (λ c κs. search needs)
+    (λ c. search needs)
+    (λ c κs. search needs)
+    (λ c κs. search needs)
+    (λ c. search needs)
+    (λ c κs. search needs)
+    (λ c. search needs)
     returns)

@@ -5,14 +5,8 @@ use Rattle.octets.proofs.Laws.{number-two}
 use Rattle.octets.proofs.u16_of.Statement.{statement}
 use Rattle.octets.proofs.u16_of.Tie as tie
 
-mul-result : tie.Need-mul-result
-mul-result c = search needs
-
-add-result : tie.Need-add-result
-add-result c = search needs
-
 returns : tie.Need-returns
 returns c = sym (number-two (c .args .a) (c .args .b))
 
 pub u16-of-spec : {M : Type 1} → statement M
-u16-of-spec = tie.close (tie.spec mul-result add-result returns)
+u16-of-spec = tie.close (tie.spec (λ c. search needs) (λ c. search needs) returns)

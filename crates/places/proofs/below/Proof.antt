@@ -12,9 +12,6 @@ use Rattle.places.proofs.below.Tie as tie
 returns : tie.Need-returns
 returns c = sym (setOf-below (c .before .args .n) 64 (omega arith))
 
-shl-result : tie.Need-shl-result
-shl-result c = search needs
-
 sub-result : tie.Need-sub-result
 sub-result c = omega (arith, shift-one (c .before .args .n) (c .if1 .left), pow-pos (c .before .args .n))
 
@@ -24,4 +21,4 @@ returns-2 c =
     ap (λ (m : ℕ). m - 1) (shift-one n (c .if1 .left)) ∙ sym (setOf-below n n (omega arith))
 
 pub below-spec : {M : Type 1} → statement M
-below-spec = tie.close (tie.spec returns shl-result sub-result returns-2)
+below-spec = tie.close (tie.spec returns (λ c. search needs) sub-result returns-2)

@@ -26,23 +26,11 @@ returns c =
     let l = c .before .before .loop in
     sym (walk-out (places (a .s)) (l .i) (a .k) 64 (sym (l .inv .1) ∙ ap places (c .if1 .taken) ∙ places-none) (omega arith))
 
-rest-requires : tie.Need-rest-requires Inv-loop μ-loop
-rest-requires c κs = tt
-
-add-i : tie.Need-add-i Inv-loop μ-loop
-add-i c = omega arith
-
-loop-less : tie.Need-loop-less Inv-loop μ-loop
-loop-less c = omega arith
-
 loop-again : tie.Need-loop-again Inv-loop μ-loop
 loop-again c =
     let s = c .before .before .before .before .args .s in
     let l = c .before .before .before .loop in
     (omega arith, c .rest .ensures .0 ∙ ap (drop 1) (l .inv .1) ∙ drop-drop 1 (l .i) (places s))
-
-first-requires : tie.Need-first-requires Inv-loop μ-loop
-first-requires c κs = tt
 
 returns-2 : tie.Need-returns-2 Inv-loop μ-loop
 returns-2 c =
@@ -58,9 +46,9 @@ nth-spec =
     μ-loop
     loop-holds
     returns
-    rest-requires
-    add-i
-    loop-less
+    (λ c κs. tt)
+    (λ c. omega arith)
+    (λ c. omega arith)
     loop-again
-    first-requires
+    (λ c κs. tt)
     returns-2)

@@ -10,9 +10,6 @@ use Rattle.places.proofs.with.Tie as tie
 returns : tie.Need-returns
 returns c = sym (withPlace-out (c .before .args .s) (c .before .args .i) (c .if1 .taken))
 
-shl-result : tie.Need-shl-result
-shl-result c = search needs
-
 returns-2 : tie.Need-returns-2
 returns-2 c =
     let s = c .before .args .s in
@@ -20,4 +17,4 @@ returns-2 c =
     ap (bitOr s) (shift-one i (c .if1 .left)) ∙ sym (withPlace-in s i (c .if1 .left))
 
 pub with-spec : {M : Type 1} → statement M
-with-spec = tie.close (tie.spec returns shl-result returns-2)
+with-spec = tie.close (tie.spec returns (λ c. search needs) returns-2)

@@ -10,29 +10,11 @@ use borrow.Author.Needs.{needs}
 use Rattle.table.proofs.admit.Statement.{statement}
 use Rattle.table.proofs.admit.Tie as tie
 
-attributes-requires : tie.Need-attributes-requires
-attributes-requires c κs = search needs
-
-find-requires : tie.Need-find-requires
-find-requires c κs = search needs
-
-enum-known-found : tie.Need-enum-known-found
-enum-known-found c = search needs
-
 replace-requires : tie.Need-replace-requires
 replace-requires c κs =
     let start = c .before .before .before .before .before .before .before .before in
     let b = start .args .t .now in
     (start .pre, at-lt entryKey (addressKey (start .args .address)) (tableIn b .entries) 1 noEntry (start .pre .sound .rising) _ (sym (c .before .before .before .before .find .ensures) ∙ c .before .before .found .given .1))
-
-enum-known-found-2 : tie.Need-enum-known-found-2
-enum-known-found-2 c = search needs
-
-count-requires : tie.Need-count-requires
-count-requires c κs = search needs
-
-same-length : tie.Need-same-length
-same-length c = search needs
 
 returns : tie.Need-returns
 returns c =
@@ -47,18 +29,12 @@ grow-requires c κs =
     let b = start .args .t .now in
     (start .pre, missing-le entryKey (addressKey (start .args .address)) (tableIn b .entries) _ (sym (c .before .before .before .before .before .before .before .find .ensures) ∙ c .before .before .before .before .before .found2 .given .1), rw (← c .before .before .count .ensures) (omega arith))
 
-same-length-2 : tie.Need-same-length-2
-same-length-2 c = search needs
-
 returns-2 : tie.Need-returns-2
 returns-2 c =
     let start = c .before .before .before .before .before .before .before .before .before .before .before in
     let a = start .args in
     let p = c .before .before .before .before .before .before .before .before .before .attributes .ensures in
     (told-at (a .t .now) (start .pre) (a .address) _ _ (a .e) p (sym (c .before .before .before .before .before .before .before .find .ensures) ∙ c .before .before .before .before .before .found .given .1) _ (c .before .before .replace .ensures), p .1)
-
-same-length-3 : tie.Need-same-length-3
-same-length-3 c = search needs
 
 returns-3 : tie.Need-returns-3
 returns-3 c =
@@ -71,16 +47,16 @@ pub admit-spec : {M : Type 1} → statement M
 admit-spec =
     tie.close
     (tie.spec
-    attributes-requires
-    find-requires
-    enum-known-found
+    (λ c κs. search needs)
+    (λ c κs. search needs)
+    (λ c. search needs)
     replace-requires
-    enum-known-found-2
-    count-requires
-    same-length
+    (λ c. search needs)
+    (λ c κs. search needs)
+    (λ c. search needs)
     returns
     grow-requires
-    same-length-2
+    (λ c. search needs)
     returns-2
-    same-length-3
+    (λ c. search needs)
     returns-3)

@@ -13,21 +13,6 @@ use borrow.Author.Needs.{needs}
 use Rattle.table.proofs.announce.Statement.{statement}
 use Rattle.table.proofs.announce.Tie as tie
 
-check-requires : tie.Need-check-requires
-check-requires c κs = search needs
-
-enum-known-checked : tie.Need-enum-known-checked
-enum-known-checked c = search needs
-
-enum-told : tie.Need-enum-told
-enum-told c = search needs
-
-number-requires : tie.Need-number-requires
-number-requires c κs = search needs
-
-place-requires : tie.Need-place-requires
-place-requires c κs = search needs
-
 returns : tie.Need-returns
 returns c =
     let start = c .before .before .before .before .before .before .before .before in
@@ -36,12 +21,6 @@ returns c =
     let l = now (start .args .communities) in
     announced-refused b (start .pre) r l _ _
     (calls.announced-refused (tableIn b) (start .pre .sound) r l _ _ _ _ _ (c .before .before .before .before .check .ensures .0) (c .before .before .enum-told .given .1) (c .before .number .ensures) (c .place .ensures))
-
-sub-same-identifier : tie.Need-sub-same-identifier
-sub-same-identifier c = search needs
-
-part-same-identifier-start : tie.Need-part-same-identifier-start
-part-same-identifier-start c = search needs
 
 part-same-identifier-end : tie.Need-part-same-identifier-end
 part-same-identifier-end c =
@@ -56,9 +35,6 @@ same-identifier-requires c κs =
     let l : length r ≡ 25 = route-length r (told-originator r _ (sym (c .before .before .before .before .before .check .ensures .0) ∙ c .before .before .before .checked .given .1) .0) in
     (start .pre, length-part r l)
 
-same-length : tie.Need-same-length
-same-length c = search needs
-
 returns-2 : tie.Need-returns-2
 unfolding routeEsi
 returns-2 c =
@@ -70,12 +46,6 @@ returns-2 c =
     announced-refused b (start .pre) r l 5 0
     (calls.differs (tableIn b) (start .pre .sound) r l _ checked (sym (c .before .same-identifier .ensures) ∙ not-true _ (c .if1 .taken)))
 
-read-list-requires : tie.Need-read-list-requires
-read-list-requires c κs = search needs
-
-same-length-2 : tie.Need-same-length-2
-same-length-2 c = search needs
-
 returns-3 : tie.Need-returns-3
 unfolding routeEsi
 returns-3 c =
@@ -86,12 +56,6 @@ returns-3 c =
     let checked = sym (c .before .before .before .before .before .before .before .before .before .before .check .ensures .0) ∙ c .before .before .before .before .before .before .before .before .checked .given .1 in
     announced-refused b (start .pre) r l 7 0
     (calls.unread (tableIn b) (start .pre .sound) r l _ checked _ (sym (c .before .before .before .before .same-identifier .ensures) ∙ not-false _ (c .before .before .before .if1 .left)) (c .before .before .read-list .ensures) (c .if2 .taken))
-
-admit-requires : tie.Need-admit-requires
-admit-requires c κs = search needs
-
-same-length-3 : tie.Need-same-length-3
-same-length-3 c = search needs
 
 returns-4 : tie.Need-returns-4
 unfolding routeEsi
@@ -111,21 +75,21 @@ pub announce-spec : {M : Type 1} → statement M
 announce-spec =
     tie.close
     (tie.spec
-    check-requires
-    enum-known-checked
-    enum-told
-    number-requires
-    place-requires
+    (λ c κs. search needs)
+    (λ c. search needs)
+    (λ c. search needs)
+    (λ c κs. search needs)
+    (λ c κs. search needs)
     returns
-    sub-same-identifier
-    part-same-identifier-start
+    (λ c. search needs)
+    (λ c. search needs)
     part-same-identifier-end
     same-identifier-requires
-    same-length
+    (λ c. search needs)
     returns-2
-    read-list-requires
-    same-length-2
+    (λ c κs. search needs)
+    (λ c. search needs)
     returns-3
-    admit-requires
-    same-length-3
+    (λ c κs. search needs)
+    (λ c. search needs)
     returns-4)

@@ -7,14 +7,8 @@ use borrow.Author.Needs.{needs}
 use Rattle.table.proofs.fresh.Statement.{statement}
 use Rattle.table.proofs.fresh.Tie as tie
 
-is-reserved-requires : tie.Need-is-reserved-requires
-is-reserved-requires c κs = search needs
-
 returns : tie.Need-returns
 returns c = fresh-reserved (now (c .before .before .before .args .esi)) (sym (c .before .is-reserved .ensures) ∙ c .if1 .taken)
-
-slice-aggregate-put-identifier : tie.Need-slice-aggregate-put-identifier
-slice-aggregate-put-identifier c = search needs
 
 put-identifier-requires : tie.Need-put-identifier-requires
 put-identifier-requires c κs = (refl, length-not-reserved (now (c .before .before .before .before .args .esi)) (sym (c .before .before .is-reserved .ensures) ∙ c .before .if1 .left))
@@ -28,8 +22,8 @@ pub fresh-spec : {M : Type 1} → statement M
 fresh-spec =
     tie.close
     (tie.spec
-    is-reserved-requires
+    (λ c κs. search needs)
     returns
-    slice-aggregate-put-identifier
+    (λ c. search needs)
     put-identifier-requires
     returns-2)

@@ -9,25 +9,10 @@ use borrow.Author.Needs.{needs}
 use Rattle.table.proofs.withdraw.Statement.{statement}
 use Rattle.table.proofs.withdraw.Tie as tie
 
-is-zero-requires : tie.Need-is-zero-requires
-is-zero-requires c κs = search needs
-
 returns : tie.Need-returns
 returns c =
     let start = c .before .before .before in
     withdrawn-zero (start .args .t .now) (start .pre) (start .args .address) (sym (c .before .is-zero .ensures) ∙ c .if1 .taken)
-
-find-requires : tie.Need-find-requires
-find-requires c κs = search needs
-
-enum-known-found : tie.Need-enum-known-found
-enum-known-found c = search needs
-
-enum-told : tie.Need-enum-told
-enum-told c = search needs
-
-same-length : tie.Need-same-length
-same-length c = search needs
 
 returns-2 : tie.Need-returns-2
 returns-2 c =
@@ -40,9 +25,6 @@ shrink-requires c κs =
     let b = start .args .t .now in
     (start .pre, at-lt entryKey (addressKey (start .args .address)) (tableIn b .entries) 1 noEntry (start .pre .sound .rising) _ (sym (c .before .before .before .before .find .ensures) ∙ c .before .before .found .given .1))
 
-same-length-2 : tie.Need-same-length-2
-same-length-2 c = search needs
-
 returns-3 : tie.Need-returns-3
 returns-3 c =
     let start = c .before .before .before .before .before .before .before .before .before .before .before .before in
@@ -52,13 +34,13 @@ pub withdraw-spec : {M : Type 1} → statement M
 withdraw-spec =
     tie.close
     (tie.spec
-    is-zero-requires
+    (λ c κs. search needs)
     returns
-    find-requires
-    enum-known-found
-    enum-told
-    same-length
+    (λ c κs. search needs)
+    (λ c. search needs)
+    (λ c. search needs)
+    (λ c. search needs)
     returns-2
     shrink-requires
-    same-length-2
+    (λ c. search needs)
     returns-3)

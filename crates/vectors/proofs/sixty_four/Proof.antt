@@ -11,20 +11,11 @@ Inv-loop t₀ n₀ t n = Valid (t .words)
 abbrev μ-loop : tie.MeasureT-loop
 μ-loop t₀ n₀ t n = 65 - n
 
-empty-table-requires : tie.Need-empty-table-requires Inv-loop μ-loop
-empty-table-requires c κs = tt
-
 loop-holds : tie.Need-loop-holds Inv-loop μ-loop
 loop-holds c = c .empty-table .ensures
 
 with-requires : tie.Need-with-requires Inv-loop μ-loop
 with-requires c κs = c .before .loop .inv
-
-add-n : tie.Need-add-n Inv-loop μ-loop
-add-n c = omega arith
-
-loop-less : tie.Need-loop-less Inv-loop μ-loop
-loop-less c = omega arith
 
 loop-again : tie.Need-loop-again Inv-loop μ-loop
 loop-again c = c .with .ensures
@@ -38,10 +29,10 @@ sixty-four-spec =
     (tie.spec
     Inv-loop
     μ-loop
-    empty-table-requires
+    (λ c κs. tt)
     loop-holds
     with-requires
-    add-n
-    loop-less
+    (λ c. omega arith)
+    (λ c. omega arith)
     loop-again
     returns)
