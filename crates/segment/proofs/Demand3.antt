@@ -21,7 +21,7 @@ use Rattle.election.specs.Election.{electOf}
 use Rattle.returning.specs.declared.Sent.{Sent}
 use Rattle.returning.specs.Returning.{returningOf}
 use Rattle.segment.specs.Calls.{Call, announce, withdraw, elect, returning, Reply, changed, elected, sent, numberIn, replyTo, leaves}
-use Rattle.segment.specs.Journal.{Announcement, originatorKey, again, entryFrom, entriesFrom, callNumber, callEffect, numberFor, step, journalReply, held, OnePage}
+use Rattle.segment.specs.Journal.{Announcement, originatorKey, again, entryFrom, entriesFrom, callNumber, callEffect, numberFor, step, journalReply, held, OnePerAddress}
 use Rattle.segment.specs.Demand3.{tableAfter, Follows, Demand3}
 use Rattle.segment.proofs.Calls.{rules, state, announced-number, withdrawn-number, call-state, refused-leaves, call-kept}
 
@@ -141,9 +141,9 @@ module _ (i : List ℕ) where
     again-state : after leaves (state i []) (map again order) ≡ after leaves (state i []) cs
     again-state = journal.same-state originatorKey (callNumber i) callEffect again 64 (rules i) (state i) leaves one cs order h
 
-one-page : (js : List Announcement) → Distinct originatorKey js → OnePage js
-one-page [] d = tt
-one-page (p ∷ js) d = (d .0, one-page js (d .1))
+one-per-address : (js : List Announcement) → Distinct originatorKey js → OnePerAddress js
+one-per-address [] d = tt
+one-per-address (p ∷ js) d = (d .0, one-per-address js (d .1))
 
 calls-kept : (t : Table) (cs : List Call) → WellFormed t → WellFormed (after leaves t cs)
 unfolding after
@@ -158,7 +158,7 @@ demand3 i cs = record {
   elections = λ tag ready. refl;
   returnings = λ a alg p d. refl;
   refusals = refused-leaves (tableAfter i cs);
-  pages = one-page (held i cs) (kept (ownerOf i) cs .distinct);
+  single = one-per-address (held i cs) (kept (ownerOf i) cs .distinct);
   last = last-held (ownerOf i) cs;
   sound = calls-kept (freshTable i .table) cs (fresh-kept i);
   accepted = again-accepted (ownerOf i) cs;

@@ -16,7 +16,7 @@ use Rattle.table.specs.Table.{freshTable}
 use Rattle.election.specs.Election.{electOf}
 use Rattle.returning.specs.Returning.{returningOf}
 use Rattle.segment.specs.Calls.{Call, elect, returning, Reply, changed, elected, sent, numberIn, replyTo, leaves}
-use Rattle.segment.specs.Journal.{Announcement, originatorKey, again, entryFrom, entriesFrom, callEffect, step, journalReply, held, OnePage}
+use Rattle.segment.specs.Journal.{Announcement, originatorKey, again, entryFrom, entriesFrom, callEffect, step, journalReply, held, OnePerAddress}
 
 abbrev pub replies : List ℕ → List Call → List Reply
 replies i cs = answers replyTo leaves (freshTable i .table) cs
@@ -38,8 +38,8 @@ pub record Demand3 (i : List ℕ) (cs : List Call) : Type 0 where
   pub elections : (tag : ℕ) (ready : List ℕ) → leaves (tableAfter i cs) (elect tag ready) ≡ tableAfter i cs
   pub returnings : (a alg p : ℕ) (d : Bool) → leaves (tableAfter i cs) (returning a alg p d) ≡ tableAfter i cs
   pub refusals : (c : Call) → (numberIn (replyTo (tableAfter i cs) c) ≡ 0 → ⊥) → leaves (tableAfter i cs) c ≡ tableAfter i cs
-  -- one page for each address: no two announcements that are held have the same originator
-  pub pages : OnePage (held i cs)
+  -- one announcement is held for each address (one page, in document 01): no two that are held have the same originator
+  pub single : OnePerAddress (held i cs)
   -- an address is held exactly if its last accepted announcement or withdrawal, by the table's own replies, was an announcement: it holds that one
   pub last : (k : ℕ) → heldAt originatorKey k (held i cs) ≡ lastHeld originatorKey callEffect k none cs (map numberIn (replies i cs))
   -- the table at the end has what every call asks of a table

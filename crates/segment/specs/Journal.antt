@@ -11,7 +11,7 @@
 --   numberFor i js c, step i js c  == the number that the call c is answered where js is held, and what is held after it
 --   journalReply i js c    == what the call c is answered, from the identifier and what is held
 --   held i cs              == what the calls cs leave held, where the identifier i was handed in
---   OnePage js             == no two announcements of js have the same originator's key
+--   OnePerAddress js       == no two announcements of js have the same originator's key
 use Prim.Native.Nat.{ℕ}
 use mathlib.Core.Path.{_≡_}
 use mathlib.Core.Bool.{Bool, false}
@@ -74,6 +74,6 @@ journalReply i js (returning a alg p d) = sent (returningOf (entriesFrom js) a a
 abbrev pub held : List ℕ → List Call → List Announcement
 held i cs = after (step (ownerOf i)) [] cs
 
-abbrev pub OnePage : List Announcement → Type 0
-OnePage [] = Unit
-OnePage (p ∷ js) = (has originatorKey (originatorKey p) js ≡ false) × OnePage js
+abbrev pub OnePerAddress : List Announcement → Type 0
+OnePerAddress [] = Unit
+OnePerAddress (p ∷ js) = (has originatorKey (originatorKey p) js ≡ false) × OnePerAddress js

@@ -19,7 +19,8 @@ ghost use Rattle.segment.specs.Demand3.{Demand3, Follows, tableAfter};
 ghost use Rattle.segment.specs.Values.{starred, allRight};
 
 // A fresh table for an identifier. For a reserved one, or one that is not ten octets, 4 and the empty table of the all-zero identifier.
-// It is the table that the empty list of calls leaves. Whatever list of calls follows, demand 3 holds of it; and the definitions compute document 01's starred values.
+// It is the table that the empty list of calls leaves. Whatever list of calls follows, demand 3 holds of it; and the definitions compute document
+// 01's starred values.
 pub fn fresh(esi: &[u8]) -> Made
     ensures answer { λ r. ⌜ Told (freshTable (now (esi .entry))) (r .number) 0 (r .table) ⌝ }
     ensures kept { λ r. ⌜ Valid (r .table) ⌝ }
