@@ -1,5 +1,5 @@
 -- Laws of addresses and of the rows that they are kept as. Assumes nothing.
-use Prim.Native.Nat.{ℕ, _≤_, _*_, _^_}
+use Prim.Native.Nat.{ℕ, _≤_}
 use native.Mathlib.Omega.{arith}
 use mathlib.Core.Path.{_≡_, refl}
 use mathlib.Core.Bool.{false}

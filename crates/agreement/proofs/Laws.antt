@@ -1,5 +1,5 @@
 -- The algorithm in use, from the kinds of the entries. Assumes nothing.
-use Prim.Native.Nat.{ℕ, zero, suc, _+_, _*_, _/_, _%_, _≤_, _<_}
+use Prim.Native.Nat.{ℕ, _+_, _*_, _/_, _%_, _≤_, _<_}
 use native.Mathlib.Numerals.{add-one}
 use native.Mathlib.Omega.{arith}
 use mathlib.Core.Path.{_≡_, refl, ap, ap₂, _∙_, sym}
@@ -12,8 +12,7 @@ use borrow.Author.Tests.{lt-ltb, le-ltb, eq-eqb, ne-eqb}
 use Rattle.keyed.proofs.Order.{Same, yea, nay, same}
 use Rattle.layout.specs.Table.{Entry, noEntry}
 use Rattle.layout.specs.Words.{bit, kindOf}
-use Rattle.layout.proofs.Words.{bit-less}
-use Rattle.agreement.specs.Agreement.{carries, allCarry, fallback, inUse}
+use Rattle.agreement.specs.Agreement.{allCarry, fallback, inUse}
 use Rattle.agreement.specs.Steps.{allOfKind}
 use Rattle.agreement.specs.declared.InUse.{InUse}
 

@@ -1,16 +1,15 @@
 -- Criteria in their order make a strict order (`Order` of Laws.antt), and over a list whose keys rise the best by a score is the first with the greatest.
 -- Assumes nothing.
 use Prim.Native.Nat.{ℕ, zero, suc, _≤_, _<_, zero-le, suc-le-suc}
-use native.Mathlib.Nat.{le-of-suc-le-suc, not-suc-le-zero, le-refl, zero-lt-suc}
+use native.Mathlib.Nat.{le-of-suc-le-suc, not-suc-le-zero, zero-lt-suc}
 use native.Mathlib.Omega.{arith}
-use mathlib.Core.Path.{_≡_, refl, ap, sym, _∙_, subst}
+use mathlib.Core.Path.{_≡_, refl, ap, sym, _∙_}
 use mathlib.Core.Bool.{Bool, true, false, cond, not, _&&_}
 use mathlib.Core.List.{List, [], _∷_, List·Memᴰ, List·Memᴰ·head, List·Memᴰ·tail, List·Memᴰ·not-nil}
 use lib.ListN.{length, getD}
-use lib.Arith.{lt-of-le-ne}
 use borrow.Author.Tests.{ltb-true, ltb-false, lt-ltb, le-ltb}
 use Rattle.choice.specs.Choice.{best, decided, higher, lower, flagged, andThen, byScore}
-use Rattle.choice.proofs.Laws.{Order, Unique, true-false, not-true-false, not-false-true, at-mem, best-at, best-top}
+use Rattle.choice.proofs.Laws.{Order, Unique, true-false, not-true-false, not-false-true, at-mem}
 
 -- ---- one criterion
 
@@ -126,14 +125,6 @@ module _ {A : Type 0} (score key : A → ℕ) where
   pub order-byScore : Order key (byScore score key)
   order-byScore = order-then (higher score) (lower key) key (criterion-higher score) (order-lower key)
 
-  -- what it says of an a that is not better than b
-  pub byScore-false : (a b : A) → byScore score key a b ≡ false → (score a ≤ score b) × (score a ≡ score b → key b ≤ key a)
-  byScore-false a b h = (
-    ltb-false (score b) (score a) (not-true-false (λ p. true-false (then-won (higher score) (lower key) a b p) h)),
-    λ e. ltb-false (key a) (key b)
-        (sym (then-level (higher score) (lower key) a b (le-ltb (score b) (score a) (omega arith)) (le-ltb (score a) (score b) (omega arith))) ∙ h),
-  )
-
 -- ---- lists whose keys rise
 
 module _ {A : Type 0} (key : A → ℕ) where
@@ -199,32 +190,6 @@ module _ {A : Type 0} (wins : A → A → Bool) (key : A → ℕ) where
   best-later x (y ∷ l) r = rw (then-later x y (r .0)) (best-later (cond (wins y x) y x) l (later-step x y l (wins y x) r))
 
 module _ {A : Type 0} (score key : A → ℕ) where
-  -- none has a greater score, and of those with the same score none has a lower key
-  pub best-score : (x : A) (l : List A) → Unique key (x ∷ l) → (b : A) → List·Memᴰ b (x ∷ l)
-      → (score b ≤ score (best (byScore score key) x l)) × (score b ≡ score (best (byScore score key) x l) → key (best (byScore score key) x l) ≤ key b)
-  best-score x l u b h =
-      byScore-false score key b (best (byScore score key) x l) (best-top key (byScore score key) (order-byScore score key) x l u b h)
-
   -- where keys rise, a walk that changes over only for a greater score finds it
   pub best-walk : (x : A) (l : List A) → Ascending key (suc (key x)) l → best (byScore score key) x l ≡ best (higher score) x l
   best-walk = best-later (higher score) key
-
-  -- and it is the first of the list with that score
-  pub best-first : (x : A) (l : List A) (d : A) → Ascending key (suc (key x)) l
-      → (i : ℕ) × (i < length (x ∷ l)) × (getD (x ∷ l) i d ≡ best (byScore score key) x l)
-      × ((j : ℕ) → j < i → score (getD (x ∷ l) j d) < score (best (byScore score key) x l))
-  best-first x l d r = (t .0, t .1, t .2, before)
-    where
-      t : (i : ℕ) × (i < length (x ∷ l)) × (getD (x ∷ l) i d ≡ best (byScore score key) x l)
-      t = best-at (byScore score key) x l d
-
-      rise : Ascending key (key x) (x ∷ l)
-      rise = (le-refl (key x), r)
-
-      before : (j : ℕ) → j < t .0 → score (getD (x ∷ l) j d) < score (best (byScore score key) x l)
-      before j g =
-          let u : Unique key (x ∷ l) = unique-ascending key (key x) (x ∷ l) rise in
-          let s = best-score x l u (getD (x ∷ l) j d) (at-mem (x ∷ l) j d (omega (arith, t .1))) in
-          let k : key (getD (x ∷ l) j d) < key (best (byScore score key) x l) =
-          subst (λ (a : A). key (getD (x ∷ l) j d) < key a) (t .2) (ascending-at key (key x) (x ∷ l) d rise j (t .0) g (t .1)) in
-          lt-of-le-ne (s .0) (λ e. omega (arith, s .1 e))

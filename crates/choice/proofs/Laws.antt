@@ -2,12 +2,11 @@
 -- depend on how the list is walked, and losers may come and go.
 -- Assumes nothing.
 use Prim.Native.Nat.{ℕ, zero, suc, _<_}
-use native.Mathlib.Nat.{le-of-suc-le-suc, not-suc-le-zero, zero-lt-suc}
+use native.Mathlib.Nat.{le-of-suc-le-suc, not-suc-le-zero}
 use native.Mathlib.Omega.{arith}
 use mathlib.Core.Path.{_≡_, refl, ap, sym, _∙_}
-use mathlib.Core.Logic.{⊎-elim}
 use mathlib.Core.Bool.{Bool, true, false, cond, not}
-use mathlib.Core.List.{List, [], _∷_, _++_, map, List·Memᴰ, List·Memᴰ·head, List·Memᴰ·tail, List·Memᴰ·not-nil, List·Memᴰ·append-cases, List·Memᴰ·eq-of-singleton, Memᴰ·append-left, Memᴰ·append-right, List·Permᴰ, List·Permᴰ·nil, List·Permᴰ·cons, List·Permᴰ·swap, List·Permᴰ·trans, Permᴰ·symm}
+use mathlib.Core.List.{List, [], _∷_, List·Memᴰ, List·Memᴰ·head, List·Memᴰ·tail, List·Memᴰ·not-nil, List·Memᴰ·eq-of-singleton, Memᴰ·append-right}
 use lib.ListN.{length, getD}
 use lib.Dec.{eqb}
 use borrow.Author.Tests.{ne-eqb}
@@ -28,24 +27,10 @@ not-false-true {b = true} n = refl
 not-false-true {b = false} n = absurd (n refl)
 
 module _ {A : Type 0} where
-  -- an element of a list stands at a place of it, and what stands there is an element
-  pub mem-at : {a : A} {l : List A} (d : A) → List·Memᴰ a l → (i : ℕ) × (i < length l) × (getD l i d ≡ a)
-  mem-at d (List·Memᴰ·head e) = (zero, zero-lt-suc _, sym e)
-  mem-at d (List·Memᴰ·tail m) = let t = mem-at d m in (suc (t .0), omega (arith, t .1), t .2)
-
   pub at-mem : (l : List A) (i : ℕ) (d : A) → i < length l → List·Memᴰ (getD l i d) l
   at-mem [] i d h = absurd (not-suc-le-zero h)
   at-mem (x ∷ l) zero d h = List·Memᴰ·head refl
   at-mem (x ∷ l) (suc i) d h = List·Memᴰ·tail (at-mem l i d (le-of-suc-le-suc h))
-
-  pub mem-perm : {a : A} {l m : List A} → List·Permᴰ l m → List·Memᴰ a l → List·Memᴰ a m
-  mem-perm List·Permᴰ·nil h = h
-  mem-perm (List·Permᴰ·cons e p) (List·Memᴰ·head q) = List·Memᴰ·head (q ∙ e)
-  mem-perm (List·Permᴰ·cons e p) (List·Memᴰ·tail h) = List·Memᴰ·tail (mem-perm p h)
-  mem-perm (List·Permᴰ·swap e f) (List·Memᴰ·head q) = List·Memᴰ·tail (List·Memᴰ·head (q ∙ e))
-  mem-perm (List·Permᴰ·swap e f) (List·Memᴰ·tail (List·Memᴰ·head q)) = List·Memᴰ·head (q ∙ f)
-  mem-perm (List·Permᴰ·swap e f) (List·Memᴰ·tail (List·Memᴰ·tail h)) = List·Memᴰ·tail (List·Memᴰ·tail h)
-  mem-perm (List·Permᴰ·trans p q) h = mem-perm q (mem-perm p h)
 
   mem-under : {a x : A} {l m : List A} → (List·Memᴰ a m → List·Memᴰ a l) → List·Memᴰ a (x ∷ m) → List·Memᴰ a (x ∷ l)
   mem-under f (List·Memᴰ·head e) = List·Memᴰ·head e
@@ -90,24 +75,9 @@ module _ {A : Type 0} (better : A → A → Bool) where
   unfolding best
   best-stays x y l e = rw e
 
-  pub bestOf-none : (d : A) → bestOf better d [] ≡ d
-  unfolding bestOf
-  bestOf-none d = refl
-
   pub bestOf-cons : (d x : A) (l : List A) → bestOf better d (x ∷ l) ≡ best better x l
   unfolding bestOf
   bestOf-cons d x l = refl
-
-  -- a walk over names of the elements
-  cond-of : {B : Type 0} (f : B → A) (t : Bool) (x y : B) → f (cond t x y) ≡ cond t (f x) (f y)
-  cond-of f true x y = refl
-  cond-of f false x y = refl
-
-  pub best-map : {B : Type 0} (f : B → A) (x : B) (l : List B) → f (best (λ (a b : B). better (f a) (f b)) x l) ≡ best better (f x) (map f l)
-  unfolding best
-  best-map f x [] = refl
-  best-map f x (y ∷ l) =
-      best-map f (cond (better (f y) (f x)) y x) l ∙ ap (λ (z : A). best better z (map f l)) (cond-of f (better (f y) (f x)) y x)
 
   -- the best is in the list
   mem-walk : {a x y : A} {l : List A} (t : Bool) → List·Memᴰ a (cond t y x ∷ l) → List·Memᴰ a (x ∷ y ∷ l)
@@ -119,9 +89,6 @@ module _ {A : Type 0} (better : A → A → Bool) where
   unfolding best
   best-in x [] = List·Memᴰ·head refl
   best-in x (y ∷ l) = mem-walk (better y x) (best-in (cond (better y x) y x) l)
-
-  pub best-at : (x : A) (l : List A) (d : A) → (i : ℕ) × (i < length (x ∷ l)) × (getD (x ∷ l) i d ≡ best better x l)
-  best-at x l d = mem-at d (best-in x l)
 
 -- ---- strict orders that tell keys apart
 
@@ -195,24 +162,3 @@ module _ {A : Type 0} (key : A → ℕ) (better : A → A → Bool) (o : Order k
     -- in particular those of one key that is not the best's
     pub best-without : (k : ℕ) → (key (best better x l) ≡ k → ⊥) → bestOf better d (kept (λ (a : A). not (eqb (key a) k)) (x ∷ l)) ≡ best better x l
     best-without k n = best-kept (λ (a : A). not (eqb (key a) k)) (ap not (ne-eqb (key (best better x l)) k n))
-
-  -- the best does not depend on how the list is walked: only on what is in it
-  pub bestOf-same : (d : A) (l m : List A) → ((b : A) → List·Memᴰ b l → List·Memᴰ b m) → ((b : A) → List·Memᴰ b m → List·Memᴰ b l)
-      → Unique key l → bestOf better d l ≡ bestOf better d m
-  bestOf-same d [] [] f g u = refl
-  bestOf-same d [] (y ∷ m) f g u = absurd (List·Memᴰ·not-nil (g y (List·Memᴰ·head refl)))
-  bestOf-same d (x ∷ l) m f g u = bestOf-cons better d x l ∙ sym (best-fewer d x l u m g (f (best better x l) (best-in better x l)))
-
-  pub bestOf-perm : (d : A) {l m : List A} → List·Permᴰ l m → Unique key l → bestOf better d l ≡ bestOf better d m
-  bestOf-perm d {l} {m} p u = bestOf-same d l m (λ b. mem-perm p) (λ b. mem-perm (Permᴰ·symm p)) u
-
-  -- losers may come: elements that are all worse than the best
-  pub best-append : (x : A) (l m : List A) → Unique key (x ∷ l ++ m) → ((b : A) → List·Memᴰ b m → better (best better x l) b ≡ true)
-      → best better x (l ++ m) ≡ best better x l
-  best-append x l m u w =
-      sym (bestOf-cons better x x (l ++ m)) ∙ bestOf-only x (best better x l) (x ∷ l ++ m) u (Memᴰ·append-left m (best-in better x l)) none
-    where
-      none : (b : A) → List·Memᴰ b (x ∷ l ++ m) → better b (best better x l) ≡ false
-      none b h =
-          ⊎-elim (λ k. best-top x l (unique-sub key (λ a. Memᴰ·append-left m) u) b k)
-          (λ k. o .asym (best better x l) b (w b k)) (List·Memᴰ·append-cases (x ∷ l) h)

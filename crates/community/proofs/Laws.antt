@@ -1,5 +1,5 @@
 -- Laws of `specs/Community.antt`: what a list says, walked from place to place, and that a written community reads back. Assumes nothing.
-use Prim.Native.Nat.{ℕ, zero, suc, _+_, _-_, _*_, _/_, _%_, _^_, _≤_, _<_}
+use Prim.Native.Nat.{ℕ, suc, _+_, _-_, _/_, _%_, _≤_, _<_}
 use native.Mathlib.Nat.{mod-eq-of-lt, add-zero}
 use native.Mathlib.Decide.{ℕ-discrete}
 use native.Mathlib.Omega.{arith}
@@ -7,8 +7,8 @@ use mathlib.Core.Path.{_≡_, refl, ap, sym, _∙_}
 use mathlib.Core.Bool.{Bool, true, false, cond, _&&_, and-false}
 use mathlib.Core.List.{List, [], _∷_, _++_}
 use lib.ListN.{length, getD, take, drop, length-drop}
-use lib.Seq.{length-take-le, getD-take, getD-drop, drop-drop, drop-length, take-all, take-at}
-use lib.Dec.{ltb, leb, eqb}
+use lib.Seq.{length-take-le, getD-take, getD-drop, drop-drop, take-all, take-at}
+use lib.Dec.{eqb}
 use borrow.Author.Tests.{eq-eqb, ne-eqb, le-leb, lt-leb, le-ltb, lt-ltb}
 use Rattle.octets.specs.Octets.{numberOf, octetsOf, stored}
 use Rattle.octets.proofs.Laws.{length-octets, number-octets-small, stored-front, take-elements}

@@ -13,8 +13,8 @@
 --   readList s               == the answer of the list's reader
 --   writeNumber a n          == the answer of the writer, for the algorithm a and a buffer of n octets
 --   communityWritten d ..    == what a buffer holds after the writer, where it held d
-use Prim.Native.Nat.{ℕ, zero, suc, _+_, _*_, _/_, _%_}
-use mathlib.Core.Bool.{Bool, true, false, cond, _&&_, _||_}
+use Prim.Native.Nat.{ℕ, zero, suc, _+_, _/_, _%_}
+use mathlib.Core.Bool.{Bool, false, cond, _&&_, _||_}
 use mathlib.Core.List.{List, [], _∷_, _++_}
 use lib.ListN.{length, getD, take, drop}
 use lib.Dec.{ltb, leb, eqb}

@@ -3,18 +3,18 @@
 use Prim.Native.Nat.{ℕ, _<_, _≤_}
 use native.Mathlib.Omega.{arith}
 use mathlib.Core.Path.{_≡_, refl, sym, ap, _∙_}
-use mathlib.Core.Bool.{Bool, true, false, cond, not, _||_, true≢false, and-eq-true-iff, and-false, or-true}
+use mathlib.Core.Bool.{Bool, true, false, cond, not, _||_, true≢false, and-eq-true-iff, and-false}
 use mathlib.Core.List.{List, _++_}
 use lib.ListN.{length, take, drop, replicate}
-use lib.Seq.{take-all, take-at, drop-at}
+use lib.Seq.{take-all, take-at}
 use lib.Dec.{eqb}
 use borrow.Author.Tests.{eq-eqb, ne-eqb, eqb-true, lt-ltb, le-ltb}
 use Rattle.octets.specs.Octets.{allAre}
-use Rattle.octets.proofs.Laws.{Octets, octets-replicate, all-are-replicate}
+use Rattle.octets.proofs.Laws.{Octets, octets-replicate}
 use Rattle.esi.specs.declared.TextRead.{TextRead}
 use Rattle.esi.specs.Reserved.{reserved}
 use Rattle.esi.specs.Text.{firstWrong, FirstFault, wellFormed, esiIn, accepted, refused, readText, textOf, lowerCase, writeTextNumber, textWritten}
-use Rattle.esi.proofs.Places.{Right, length-text, getD-text, length-esi, esi-octets, text-esi, text-right, esi-text, first-fault, right-each, each-right}
+use Rattle.esi.proofs.Places.{Right, length-text, getD-text, esi-octets, text-esi, text-right, esi-text, first-fault, right-each, each-right}
 
 -- ---- reserved identifiers
 
@@ -40,16 +40,6 @@ module _ (s : List ℕ) where
       or-left : (a b : Bool) → (not a || b) ≡ false → a ≡ true
       or-left true b e = refl
       or-left false b e = absurd (true≢false e)
-
-pub reserved-zeros : reserved (replicate 10 0) ≡ true
-reserved-zeros = reserved-all-zero (replicate 10 0) refl (all-are-replicate 0 10)
-
-pub reserved-ones : reserved (replicate 10 255) ≡ true
-reserved-ones = reserved-ten (replicate 10 255) refl ∙ rw (all-are-replicate 255 10) (or-true (allAre 0 (replicate 10 255)))
-
--- an identifier that is not reserved is not all zero
-pub not-zeros : (s : List ℕ) → reserved s ≡ false → s ≡ replicate 10 0 → ⊥
-not-zeros s h e = true≢false (sym reserved-zeros ∙ (rw e at h))
 
 -- ---- the three answers of reading
 
@@ -105,21 +95,11 @@ read-cases t P = go (wellFormed t) (reserved (esiIn t))
 -- ---- what is read
 
 module _ (t : List ℕ) where
-  pub read-length : length (readText t .esi) ≡ 10
-  read-length = read-cases t (λ a. length (a .esi) ≡ 10) (λ w. refl) (λ w r. refl) (λ w r. length-esi t)
-
   pub read-octets : Octets (readText t .esi)
   read-octets = read-cases t (λ a. Octets (a .esi)) (λ w. zeros) (λ w r. zeros) (λ w r. esi-octets t (well-formed-right t w))
     where
       zeros : Octets (replicate 10 0)
       zeros = octets-replicate 10 0 (omega arith)
-
-  pub read-not-reserved : readText t .number ≡ 0 → reserved (readText t .esi) ≡ false
-  read-not-reserved =
-      read-cases t (λ a. a .number ≡ 0 → reserved (a .esi) ≡ false) (λ w e. absurd (omega arith)) (λ w r e. absurd (omega arith)) (λ w r e. r)
-
-  pub read-zeros : (readText t .number ≡ 0 → ⊥) → readText t .esi ≡ replicate 10 0
-  read-zeros = read-cases t (λ a. (a .number ≡ 0 → ⊥) → a .esi ≡ replicate 10 0) (λ w n. refl) (λ w r n. refl) (λ w r n. absurd (n refl))
 
   -- where 13 is answered, its place is the first fault
   pub read-fault : readText t .number ≡ 13 → FirstFault t (readText t .place)
@@ -172,6 +152,3 @@ module _ (d s : List ℕ) where
 
   pub take-written : writeTextNumber (length d) s ≡ 0 → take 29 (textWritten d s) ≡ textOf s
   take-written e = rw (written-text e) (take-at (textOf s) (drop 29 d) 29 (length-text s))
-
-  pub drop-written : writeTextNumber (length d) s ≡ 0 → drop 29 (textWritten d s) ≡ drop 29 d
-  drop-written e = rw (written-text e) (drop-at (textOf s) (drop 29 d) 29 (length-text s))

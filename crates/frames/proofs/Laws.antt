@@ -1,15 +1,14 @@
 -- Laws of `specs/Frames.antt`: a front against the octets of a record, what stays when octets follow, how long fronts are, and the answers.
 -- Assumes nothing.
 use Prim.Native.Nat.{ℕ, _+_, _-_, _≤_, _<_}
-use native.Mathlib.Nat.{not-suc-le-zero}
 use native.Mathlib.Omega.{arith}
 use mathlib.Core.Path.{_≡_, refl, ap, _∙_, sym, subst}
 use mathlib.Core.Bool.{Bool, true, false, cond}
-use mathlib.Core.List.{List, [], _∷_, _++_, append-assoc, append-nil}
+use mathlib.Core.List.{List, [], _∷_, _++_, append-assoc}
 use lib.ListN.{length, getD, take, drop, replicate, length-append, length-drop, length-replicate, take-append-drop}
 use lib.Seq.{take-append-seam, drop-append-seam, getD-drop, length-take-le, drop-drop}
 use lib.Dec.{leb, eqb}
-use borrow.Author.Tests.{eq-eqb, eqb-true, le-leb, lt-leb, leb-true, leb-false}
+use borrow.Author.Tests.{eqb-true, le-leb, leb-true, leb-false}
 use Rattle.frames.specs.declared.Frame.{Frame}
 use Rattle.frames.specs.declared.Frame.the-variants.{Nothing, Bad, Cut, Whole}
 use Rattle.frames.specs.Frames.{Front, nothing, bad, cut, whole, must, front, located, frameAt}
@@ -131,10 +130,6 @@ bad-append (a ∷ b ∷ k ∷ n ∷ s) t e = mark-stays-bad a b _ (k ∷ n ∷ s
     by-test true q = clash (cc)
     by-test false q = clash (cc)
 
--- so no octets make a record of it
-pub bad-never : (s t : List ℕ) (k : ℕ) (p r : List ℕ) → front s ≡ bad → s ++ t ≡ recordOf k p ++ r → ⊥
-bad-never s t k p r e q = let w = sym (bad-append s t e) ∙ ap front q ∙ front-record k p r in clash (cc)
-
 -- ---- a cut record is a start of a record, and the other way round
 
 -- s is octets, at least one, that some missing octets, at least one, make a record
@@ -181,21 +176,6 @@ cut-begun (a ∷ b ∷ k ∷ n ∷ s) e =
         let h = m refl in
         let l : length (s ++ missingOf n s) ≡ n = length-completed n s h in
         record { begun = omega arith; kind = k; payload = s ++ missingOf n s; missing = missingOf n s; lacks = simp length-replicate (omega arith); completes = cc; short = λ o. omega arith }
-
-pub begun-cut : (s : List ℕ) → Begun s → front s ≡ cut
-unfolding front
-begun-cut [] b = absurd (not-suc-le-zero (b .begun))
-begun-cut (a ∷ []) b = rw (eq-eqb a 0xD5 (cc (b .completes)))
-begun-cut (a ∷ c ∷ []) b = rw (eq-eqb a 0xD5 (cc (b .completes)), eq-eqb c 0x4F (cc (b .completes)))
-begun-cut (a ∷ c ∷ k ∷ []) b = rw (eq-eqb a 0xD5 (cc (b .completes)), eq-eqb c 0x4F (cc (b .completes)))
-begun-cut (a ∷ c ∷ k ∷ n ∷ s) b =
-    let e : n ≡ length (s ++ b .missing) = cc (b .completes) in
-    let l : length s < n = omega (arith, length-append s (b .missing), b .lacks) in
-    rw (eq-eqb a 0xD5 (cc (b .completes)), eq-eqb c 0x4F (cc (b .completes)), lt-leb n (length s) l)
-
--- so a cut record does not settle what it is with more octets: with these it is whole. Nor do no octets at all
-pub begun-whole : (s : List ℕ) (b : Begun s) → front (s ++ b .missing) ≡ whole (b .kind) (b .payload) []
-begun-whole s b = ap front (b .completes ∙ sym (append-nil (recordOf (b .kind) (b .payload)))) ∙ front-record (b .kind) (b .payload) []
 
 -- ---- how long they are: fewer than 256 octets of payload, fewer than 259 octets of a cut record
 
@@ -247,6 +227,3 @@ pub found-length : (s : List ℕ) {at k start len : ℕ} → getD s (at + 3) 0 <
 found-length s {at} {k} {start} {len} o f =
     let l = whole-length (drop at s) (rw getD-drop o) (f .stands) in
     rw (length-take-le len (drop start s) (simp length-drop (omega (arith, f .fits)))) at l
-
-pub cut-length-at : (s : List ℕ) (at : ℕ) → getD s (at + 3) 0 < 256 → front (drop at s) ≡ cut → length s < at + 259
-cut-length-at s at o e = omega (arith, cut-length (drop at s) (rw getD-drop o) e, length-drop at s)

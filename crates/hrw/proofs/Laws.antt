@@ -5,15 +5,14 @@ use native.Mathlib.Nat.{mul-one, mul-add, mul-assoc, add-assoc, div-add-mod', mo
 use native.Mathlib.Numerals.{add-one}
 use native.Mathlib.Omega.{arith}
 use mathlib.Core.Path.{_≡_, refl, ap, _∙_, sym}
-use mathlib.Core.Bool.{Bool, true, false, cond}
+use mathlib.Core.Bool.{cond}
 use mathlib.Core.List.{List, [], _∷_, _++_}
 use lib.ListN.{length, getD, drop, drop-of-length-le}
 use lib.Seq.{drop-cons}
 use lib.Pow.{pow-pos, split}
 use lib.Dec.{eqb}
-use lib.Bits.{bitXor, differ, xor-mod, xor-lt, xor-shifted, shifted-half, shifted-even}
+use lib.Bits.{bitXor, differ, xor-mod, xor-shifted, shifted-half, shifted-even}
 use Rattle.octets.specs.Octets.{octetsOf}
-use Rattle.octets.proofs.Laws.{Octets}
 use Rattle.hrw.specs.Crc.{polynomial, allOnes, crcBit, crcBits, crcOctet, crcOver, crc32Of}
 use Rattle.hrw.specs.Weight.{digestOver, digestOf, weightOf}
 use Rattle.hrw.proofs.Xor.{bit, xor-half, xor-odd, xor-xor}
@@ -93,41 +92,6 @@ crc32-check = refl
 
 -- ---- bounds
 
-crcBit-lt : (c : ℕ) → c < 2 ^ 32 → crcBit c < 2 ^ 32
-unfolding crcBit
-crcBit-lt c h = xor-lt 32 (cond (eqb (c % 2) 1) polynomial 0) (c / 2) (taken (eqb (c % 2) 1)) (omega arith)
-  where
-    taken : (t : Bool) → cond t polynomial 0 < 2 ^ 32
-    taken true = omega arith
-    taken false = omega arith
-
-crcBits-lt : (n c : ℕ) → c < 2 ^ 32 → crcBits n c < 2 ^ 32
-unfolding crcBits
-crcBits-lt zero c h = h
-crcBits-lt (suc n) c h = crcBits-lt n (crcBit c) (crcBit-lt c h)
-
-pub crcOver-lt : (c : ℕ) (s : List ℕ) → c < 2 ^ 32 → Octets s → crcOver c s < 2 ^ 32
-unfolding crcOver crcOctet
-crcOver-lt c [] h o = h
-crcOver-lt c (x ∷ s) h o =
-    crcOver-lt (crcOctet c x) s (crcBits-lt 8 (bitXor c x) (xor-lt 32 c x h (omega (arith, o 0)))) (λ i. o (suc i))
-
-pub crc32-lt : (s : List ℕ) → Octets s → crc32Of s < 2 ^ 32
-unfolding crc32Of
-crc32-lt s o = xor-lt 32 (crcOver allOnes s) allOnes (crcOver-lt allOnes s (omega arith) o) (omega arith)
-
-pub digestOver-lt : (s : List ℕ) → digestOver s < 2 ^ 31
-unfolding digestOver
-digestOver-lt s = mod-lt (crc32Of s) (omega arith)
-
-pub digestOf-lt : (tag : ℕ) (esi : List ℕ) → digestOf tag esi < 2 ^ 31
-unfolding digestOf
-digestOf-lt tag esi = digestOver-lt (octetsOf 4 tag ++ esi)
-
-pub weightOf-lt : (a d : ℕ) → weightOf a d < 2 ^ 31
-unfolding weightOf
-weightOf-lt a d = mod-lt _ (omega arith)
-
 -- ---- the low 31 bits decide a weight
 
 -- the step of document 01's formula, which it takes twice
@@ -158,7 +122,3 @@ weightOf-low a d =
     ∙ ap (λ (n : ℕ). step n % 2 ^ 31)
     (xor-mod (step a) d 31 ∙ ap (λ (n : ℕ). bitXor n (d % 2 ^ 31)) (step-mod a) ∙ sym (xor-mod (step l) d 31))
     ∙ sym (weightOf-reduced l d)
-
--- so two addresses that agree in these tie at every digest
-pub weightOf-tie : (a b d : ℕ) → a % 2 ^ 31 ≡ b % 2 ^ 31 → weightOf a d ≡ weightOf b d
-weightOf-tie a b d e = weightOf-low a d ∙ ap (λ (n : ℕ). weightOf n d) e ∙ sym (weightOf-low b d)

@@ -4,7 +4,7 @@ use native.Mathlib.Omega.{arith}
 use native.Mathlib.Nat.{zero-add, suc-add}
 use mathlib.Core.Path.{_≡_, refl, ap, ap₂, _∙_, sym}
 use mathlib.Core.List.{List, [], _∷_, _++_, map, map-append, append-nil}
-use lib.ListN.{length, getD, take, drop, set, length-append, length-drop, length-map, length-set, drop-of-length-le}
+use lib.ListN.{length, getD, take, drop, set, length-drop, length-map, length-set, drop-of-length-le}
 use lib.Seq.{take-at, drop-at, take-all}
 use borrow.Rule.Slice.PartMut.{putMid, same-len-mid}
 use lib.Dec.{eqb}
@@ -13,8 +13,8 @@ use Rattle.address.proofs.Laws.{row-length, row-back}
 use Rattle.keyed.specs.Keyed.{spliced, cut}
 use Rattle.keyed.proofs.Keyed as keyed
 use Rattle.rows.specs.Rows.{column, inserted, removed}
-use Rattle.rows.proofs.Columns.{Wide, length-column, column-inserted, column-removed, column-set}
-use Rattle.layout.specs.Table.{Entry, noEntry, Table, tableOf}
+use Rattle.rows.proofs.Columns.{length-column, column-inserted, column-removed, column-set}
+use Rattle.layout.specs.Table.{Entry, noEntry, tableOf}
 use Rattle.layout.specs.Words.{bit, kindOf, standingOf, attributesOf, addressColumn, attributeColumn, entryIn, wordsOf}
 use Rattle.layout.proofs.Words.{wide-addresses, wide-attributes}
 

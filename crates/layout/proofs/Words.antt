@@ -2,23 +2,23 @@
 use Prim.Native.Nat.{ℕ, zero, suc, _+_, _*_, _/_, _%_, _≤_, _<_}
 use native.Mathlib.Omega.{arith}
 use native.Mathlib.Numerals.{add-one}
-use mathlib.Core.Path.{_≡_, refl, ap, ap₂, _∙_, sym, subst}
+use mathlib.Core.Path.{_≡_, refl, ap, ap₂, _∙_, sym}
 use mathlib.Core.Bool.{Bool, true, false}
 use mathlib.Core.List.{List, [], _∷_, _++_, map, append-nil}
 use mathlib.Core.Logic.{⊎-elim}
-use lib.ListN.{length, getD, set, take, drop, length-append, length-map, length-replicate, drop-of-length-le, List·getD-map}
-use lib.Seq.{paste, take-at, drop-at, drop-drop, getD-take, getD-drop, take-all, take-suc, take-suc-set}
+use lib.ListN.{length, getD, set, take, drop, length-append, length-map, length-replicate, drop-of-length-le}
+use lib.Seq.{paste, drop-at, drop-drop, getD-take, getD-drop, take-all, take-suc, take-suc-set}
 use lib.Dec.{eqb}
 use mir.Val.{boolByte}
-use Rattle.address.specs.Address.{addressKey, addressRow, addressIn}
+use Rattle.address.specs.Address.{addressRow}
 use Rattle.address.proofs.Laws.{row-key, row-length, row-back}
 use Rattle.esi.proofs.Laws.{length-not-reserved}
 use Rattle.keyed.specs.Keyed.{Rising, Every}
 use Rattle.keyed.proofs.Keyed as keyed
 use Rattle.rows.specs.Rows.{rowAt, rowsIn, column, rowKey}
-use Rattle.rows.proofs.Rows.{rows-at, rows-length}
+use Rattle.rows.proofs.Rows.{rows-at}
 use Rattle.rows.proofs.Columns.{Wide, length-column, rows-column}
-use Rattle.layout.specs.Table.{Entry, entryKey, noEntry, Table, tableOf, WellFormed}
+use Rattle.layout.specs.Table.{Entry, entryKey, noEntry, Table, WellFormed}
 use Rattle.layout.specs.Words.{bit, kindOf, standingOf, attributesOf, addressColumn, attributeColumn, entryIn, entriesIn, wordsOf, tableIn, Octets, Valid}
 
 -- AN ENTRY whose preference has 16 bits
@@ -137,10 +137,6 @@ module _ (t : Table) (n : length (t .entries) ≤ 64) where
   pub drop-addresses : drop 64 (wordsOf t) ≡ attributes ++ (length (t .entries) ∷ t .esi)
   unfolding wordsOf
   drop-addresses = drop-at addresses _ 64 length-addresses
-
-  pub take-addresses : take 64 (wordsOf t) ≡ addresses
-  unfolding wordsOf
-  take-addresses = take-at addresses _ 64 length-addresses
 
   drop-attributes : drop 128 (wordsOf t) ≡ length (t .entries) ∷ t .esi
   drop-attributes = sym (drop-drop 64 64 (wordsOf t)) ∙ ap (drop 64) drop-addresses ∙ drop-at attributes _ 64 length-attributes

@@ -5,12 +5,12 @@ use native.Mathlib.Nat.{not-suc-le-zero, pow-suc}
 use native.Mathlib.Omega.{arith}
 use mathlib.Core.Path.{_≡_, refl, ap, _∙_, sym, subst}
 use mathlib.Core.Bool.{Bool, true, false, cond}
-use mathlib.Core.List.{List, [], _∷_, _++_, append-nil}
-use lib.ListN.{length, getD, take, length-append, List·getD-append}
-use lib.Dec.{leb, ltb, eqb}
-use borrow.Author.Tests.{ne-eqb, lt-ltb, le-ltb, le-leb, lt-leb, leb-true, ltb-true, ltb-false}
-use Rattle.octets.specs.Octets.{stored, numberOf, octetsOf}
-use Rattle.octets.proofs.Laws.{Octets, octets-nil, octets-cons, octets-append, stored-not, length-stored, stored-stored, take-stored, length-octets, octets-octets, octets-number, number-octets-small}
+use mathlib.Core.List.{List, [], _∷_, _++_}
+use lib.ListN.{length, take, length-append}
+use lib.Dec.{leb, ltb}
+use borrow.Author.Tests.{lt-ltb, le-ltb, le-leb, lt-leb, leb-true, ltb-true, ltb-false}
+use Rattle.octets.specs.Octets.{stored, octetsOf}
+use Rattle.octets.proofs.Laws.{Octets, stored-not, length-stored, stored-stored, take-stored, length-octets, octets-octets}
 use Rattle.lines.specs.Lines.{digit, digits, decimal, joined, dotted, placeAfter, Put}
 
 -- ---- decimal digits
@@ -49,41 +49,6 @@ pub decimal-more : (n : ℕ) → 10 ≤ n → decimal n ≡ decimal (n / 10) ++ 
 unfolding decimal
 decimal-more n h = digits-more n n h ∙ ap (λ (s : List ℕ). s ++ digit (n % 10) ∷ []) (digits-room n (suc (n / 10)) (n / 10) (omega arith) (omega arith))
 
--- what holds of numbers below 10, and of a number if it holds of its tenth, holds of all
-decimal-induction : (P : ℕ → Type 0) → ((n : ℕ) → n < 10 → P n) → ((n : ℕ) → 10 ≤ n → P (n / 10) → P n) → (n : ℕ) → P n
-decimal-induction P small more n = below (suc n) n (omega arith)
-  where
-    below : (k m : ℕ) → m < k → P m
-    below zero m h = absurd (not-suc-le-zero h)
-    below (suc k) m h = below-ten m (small m) (λ b. more m b (below k (m / 10) (omega arith)))
-
--- the number that digits say, after those that said v
-abbrev pub valueFrom : ℕ → List ℕ → ℕ
-valueFrom v [] = v
-valueFrom v (x ∷ s) = valueFrom (v * 10 + (x - 48)) s
-
-value-append : (v : ℕ) (s t : List ℕ) → valueFrom v (s ++ t) ≡ valueFrom (valueFrom v s) t
-value-append v [] t = refl
-value-append v (x ∷ s) t = value-append (v * 10 + (x - 48)) s t
-
--- the digits of n say n
-pub decimal-value : (n : ℕ) → valueFrom 0 (decimal n) ≡ n
-decimal-value =
-    decimal-induction (λ n. valueFrom 0 (decimal n) ≡ n)
-    (λ n h. rw (decimal-small n h) (omega arith))
-    (λ n h e. rw (decimal-more n h, value-append 0 (decimal (n / 10)) (digit (n % 10) ∷ []), e) (omega arith))
-
--- so different numbers have different digits
-pub decimal-inj : (a b : ℕ) → decimal a ≡ decimal b → a ≡ b
-decimal-inj a b e = sym (decimal-value a) ∙ ap (valueFrom 0) e ∙ decimal-value b
-
--- how many digits: at least one
-pub length-decimal-pos : (n : ℕ) → 0 < length (decimal n)
-length-decimal-pos n =
-    below-ten n
-    (λ h. rw (decimal-small n h) (omega arith))
-    (λ h. rw (decimal-more n h, length-append) (omega arith))
-
 -- at most k for a number below 10 ^ k, k not 0; so three for an octet and 20 for a u64
 pub length-decimal : (k n : ℕ) → n < 10 ^ suc k → length (decimal n) ≤ suc k
 length-decimal zero n h = rw (decimal-small n h) (omega arith)
@@ -94,42 +59,6 @@ length-decimal (suc k) n h =
 
 pub length-decimal-octet : (n : ℕ) → n < 256 → length (decimal n) ≤ 3
 length-decimal-octet n h = length-decimal 2 n (omega arith)
-
-pub length-decimal-word : (n : ℕ) → n < 2 ^ 64 → length (decimal n) ≤ 20
-length-decimal-word n h = length-decimal 19 n (omega arith)
-
--- no leading zero
-pub decimal-first : (n : ℕ) → 0 < n → digit 0 < getD (decimal n) 0 0
-decimal-first =
-    decimal-induction (λ n. 0 < n → digit 0 < getD (decimal n) 0 0)
-    (λ n h p. rw (decimal-small n h) (omega arith))
-    (λ n h f p. rw (decimal-more n h, List·getD-append (decimal (n / 10)) (digit (n % 10) ∷ []) 0 0 (length-decimal-pos (n / 10))) (f (omega arith)))
-
--- every octet is a digit
-abbrev pub AllDigits : List ℕ → Type 0
-AllDigits s = (i : ℕ) → i < length s → (digit 0 ≤ getD s i 0) × (getD s i 0 ≤ digit 9)
-
-digits-one : (d : ℕ) → d < 10 → AllDigits (digit d ∷ [])
-digits-one d h zero l = omega arith
-digits-one d h (suc i) l = absurd (omega arith)
-
-digits-append : (s t : List ℕ) → AllDigits s → AllDigits t → AllDigits (s ++ t)
-digits-append [] t os ot i l = ot i l
-digits-append (x ∷ s) t os ot zero l = os 0 (omega arith)
-digits-append (x ∷ s) t os ot (suc i) l = digits-append s t (λ j k. os (suc j) (omega arith)) ot i (omega arith)
-
-pub decimal-digits : (n : ℕ) → AllDigits (decimal n)
-decimal-digits =
-    decimal-induction (λ n. AllDigits (decimal n))
-    (λ n h. rw (decimal-small n h) (digits-one n h))
-    (λ n h d. rw (decimal-more n h) (digits-append (decimal (n / 10)) (digit (n % 10) ∷ []) d (digits-one (n % 10) (omega arith))))
-
-digits-octets : (s : List ℕ) → AllDigits s → Octets s
-digits-octets [] d = octets-nil
-digits-octets (x ∷ s) d = octets-cons x s (omega (arith, d 0 (omega arith))) (digits-octets s (λ i h. d (suc i) (omega arith)))
-
-pub octets-decimal : (n : ℕ) → Octets (decimal n)
-octets-decimal n = digits-octets (decimal n) (decimal-digits n)
 
 -- two and three digits
 pub decimal-two : (n : ℕ) → 10 ≤ n → n < 100 → decimal n ≡ digit (n / 10) ∷ digit (n % 10) ∷ []
@@ -142,17 +71,6 @@ decimal-three n h l =
 
 -- ---- the dotted form of an address
 
-octets-joined : (s : List ℕ) → Octets (joined s)
-unfolding joined
-octets-joined [] = octets-nil
-octets-joined (x ∷ []) = octets-decimal x
-octets-joined (x ∷ y ∷ s) =
-    octets-append (decimal x) (46 ∷ joined (y ∷ s)) (octets-decimal x) (octets-cons 46 (joined (y ∷ s)) (omega arith) (octets-joined (y ∷ s)))
-
-pub octets-dotted : (a : ℕ) → Octets (dotted a)
-unfolding dotted
-octets-dotted a = octets-joined (octetsOf 4 a)
-
 length-joined : (s : List ℕ) → Octets s → length (joined s) ≤ 4 * length s - 1
 unfolding joined
 length-joined [] o = omega arith
@@ -163,43 +81,6 @@ length-joined (x ∷ y ∷ s) o =
 pub length-dotted : (a : ℕ) → length (dotted a) ≤ 15
 unfolding dotted
 length-dotted a = omega (arith, length-joined (octetsOf 4 a) (octets-octets 4 a), length-octets 4 a)
-
--- the dotted form of the number that four octets make
-pub dotted-number : (a b c d : ℕ) → a < 256 → b < 256 → c < 256 → d < 256
-    → dotted (numberOf (a ∷ b ∷ c ∷ d ∷ [])) ≡ decimal a ++ (46 ∷ decimal b ++ (46 ∷ decimal c ++ 46 ∷ decimal d))
-unfolding dotted joined
-dotted-number a b c d ha hb hc hd =
-    ap joined (octets-number (a ∷ b ∷ c ∷ d ∷ []) (octets-cons a (b ∷ c ∷ d ∷ []) ha (octets-cons b (c ∷ d ∷ []) hb (octets-cons c (d ∷ []) hc (octets-cons d [] hd octets-nil)))))
-
--- the numbers that stand between dots, after digits that said v
-abbrev pub fieldsFrom : ℕ → List ℕ → List ℕ
-fieldsFrom v [] = v ∷ []
-fieldsFrom v (x ∷ s) = cond (eqb x 46) (v ∷ fieldsFrom 0 s) (fieldsFrom (v * 10 + (x - 48)) s)
-
-fields-digits : (v : ℕ) (s t : List ℕ) → AllDigits s → fieldsFrom v (s ++ t) ≡ fieldsFrom (valueFrom v s) t
-fields-digits v [] t d = refl
-fields-digits v (x ∷ s) t d =
-    rw (ne-eqb x 46 (λ e. omega (arith, d 0 (omega arith)))) (fields-digits (v * 10 + (x - 48)) s t (λ i h. d (suc i) (omega arith)))
-
-fields-decimal : (n : ℕ) (t : List ℕ) → fieldsFrom 0 (decimal n ++ t) ≡ fieldsFrom n t
-fields-decimal n t = fields-digits 0 (decimal n) t (decimal-digits n) ∙ ap (λ (v : ℕ). fieldsFrom v t) (decimal-value n)
-
-fields-joined : (x : ℕ) (s : List ℕ) → fieldsFrom 0 (joined (x ∷ s)) ≡ x ∷ s
-unfolding joined
-fields-joined x [] = sym (ap (fieldsFrom 0) (append-nil (decimal x))) ∙ fields-decimal x []
-fields-joined x (y ∷ s) = fields-decimal x (46 ∷ joined (y ∷ s)) ∙ ap (x ∷_) (fields-joined y s)
-
--- the dotted form says the address's octets
-pub dotted-fields : (a : ℕ) → fieldsFrom 0 (dotted a) ≡ octetsOf 4 a
-unfolding dotted octetsOf
-dotted-fields a = fields-joined _ _
-
--- so different addresses have different forms
-pub dotted-inj : (a b : ℕ) → a < 2 ^ 32 → b < 2 ^ 32 → dotted a ≡ dotted b → a ≡ b
-dotted-inj a b ha hb e =
-    sym (number-octets-small 4 a ha)
-    ∙ ap numberOf (sym (dotted-fields a) ∙ ap (fieldsFrom 0) e ∙ dotted-fields b)
-    ∙ number-octets-small 4 b hb
 
 -- ---- pieces put into a buffer
 
@@ -221,10 +102,6 @@ module _ {d : List ℕ} {at : ℕ} {s : List ℕ} {r : ℕ} {e : List ℕ} (p : 
   pub put-place : at + length s ≤ length d → r ≡ at + length s
   unfolding placeAfter
   put-place h = p .place ∙ rw (le-leb (at + length s) (length d) h)
-
-  pub put-not : length d < at + length s → (r ≡ at) × (e ≡ d)
-  unfolding placeAfter
-  put-not h = (p .place ∙ rw (lt-leb (at + length s) (length d) h), p .buffer ∙ stored-not d at s h)
 
   -- the place after a piece is inside the buffer or at its end
   pub put-within : at ≤ length d → r ≤ length d

@@ -1,23 +1,17 @@
 -- Laws of `specs/Octets.antt`: equal runs, runs of one octet, numbers from and to octets, and stores into a buffer.
 -- Assumes nothing.
 use Prim.Native.Nat.{ℕ, zero, suc, _+_, _*_, _/_, _%_, _^_, _≤_, _<_}
-use native.Mathlib.Nat.{mul-assoc, pow-suc, pow-succ', one-le-pow}
-use native.Mathlib.Nat.{div-one, mod-one, mod-lt, mod-eq-of-lt, mul-add-div-right, mul-add-mod-self-right, mul-le-mul-right, not-suc-le-zero, le-of-suc-le-suc, le-refl, le-of-eq, add-assoc, zero-add}
+use native.Mathlib.Nat.{pow-succ', one-le-pow}
+use native.Mathlib.Nat.{div-one, mod-one, mod-lt, mod-eq-of-lt, not-suc-le-zero, le-of-suc-le-suc, le-refl, le-of-eq, add-assoc, zero-add}
 use native.Mathlib.Numerals.{add-one}
 use native.Mathlib.Omega.{arith}
 use mathlib.Core.Path.{_≡_, refl, ap, ap₂, _∙_, sym, subst}
 use mathlib.Core.Bool.{Bool, true, false, cond, false≢true, and-eq-true-iff, and-false}
-use mathlib.Core.List.{List, [], _∷_, _++_, map, append-assoc, append-nil}
+use mathlib.Core.List.{List, [], _∷_, _++_, append-assoc, append-nil}
 use lib.ListN.{length, getD, set, take, drop, replicate, length-append, length-drop, drop-of-length-le}
 use lib.Seq.{take-at, take-append-seam, take-length, length-take-le, drop-append-add, drop-drop, getD-drop, length-paste, paste-suc, take-all, drop-cons}
-use lib.Arith.{digits-div, mod-mul}
+use lib.Arith.{mod-mul}
 use lib.Dec.{leb, eqb}
-use mir.Val.{Val}
-use mir.Syntax.{w8}
-use denote.Laws.{Is}
-use denote.Plain.{UInt}
-use denote.Array.{Array, each}
-use denote.Shadow.{shadow}
 use borrow.Author.Tests.{eq-eqb, ne-eqb, eqb-true, le-leb, lt-leb, leb-true}
 use Rattle.octets.specs.Octets.{numberOf, octetsOf, sameOctets, allAre, stored}
 
@@ -37,10 +31,6 @@ pub octets-replicate : (n x : ℕ) → x < 256 → Octets (replicate n x)
 octets-replicate zero x h = octets-nil
 octets-replicate (suc n) x h = octets-cons x (replicate n x) h (octets-replicate n x h)
 
-pub octets-append : (s l : List ℕ) → Octets s → Octets l → Octets (s ++ l)
-octets-append [] l os ol = ol
-octets-append (x ∷ s) l os ol = octets-cons x (s ++ l) (os 0) (octets-append s l (λ i. os (suc i)) ol)
-
 pub octets-take : (n : ℕ) (s : List ℕ) → Octets s → Octets (take n s)
 octets-take zero s o = octets-nil
 octets-take (suc n) [] o = octets-nil
@@ -48,29 +38,6 @@ octets-take (suc n) (x ∷ s) o = octets-cons x (take n s) (o 0) (octets-take n 
 
 pub octets-drop : (n : ℕ) (s : List ℕ) → Octets s → Octets (drop n s)
 octets-drop n s o i = rw getD-drop (o (n + i))
-
--- what owning an array of octets by value tells, and a struct's field that is one, which is owned through a map
-each-octet : (s : List ℕ) (us : List Val) → shadow (each ℕ (UInt w8 .own) s us) → Octets s
-each-octet [] us h i = omega arith
-each-octet (x ∷ s) [] h i = absurd h
-each-octet (x ∷ s) (u ∷ us) h zero = h .0 .1
-each-octet (x ∷ s) (u ∷ us) h (suc i) = each-octet s us (h .1) i
-
-pub array-octets : (n : ℕ) (s : List ℕ) (vs : List Val) → Is (Array (UInt w8) n) s vs → Octets s
-array-octets n s vs p = each-octet s (p .0) (p .1 .1)
-
-pub array-length : (n : ℕ) (s : List ℕ) (vs : List Val) → Is (Array (UInt w8) n) s vs → length s ≡ n
-array-length n s vs p = p .1 .0 .1
-
-pub map-same : (s : List ℕ) → map (λ (v : ℕ). v) s ≡ s
-map-same [] = refl
-map-same (x ∷ s) = ap (x ∷_) (map-same s)
-
-pub field-octets : (n : ℕ) (s : List ℕ) (vs : List Val) → Is (Array (UInt w8) n) (map (λ (v : ℕ). v) s) vs → Octets s
-field-octets n s vs p = subst (λ (l : List ℕ). Octets l) (map-same s) (array-octets n (map (λ (v : ℕ). v) s) vs p)
-
-pub field-length : (n : ℕ) (s : List ℕ) (vs : List Val) → Is (Array (UInt w8) n) (map (λ (v : ℕ). v) s) vs → length s ≡ n
-field-length n s vs p = sym (ap length (map-same s)) ∙ array-length n (map (λ (v : ℕ). v) s) vs p
 
 -- ---- equal runs
 
@@ -99,18 +66,6 @@ same-differ a b h = not-equal (sameOctets a b) (λ t. h (same-equal a b t))
     not-equal false n = refl
 
 -- ---- runs of one octet
-
-pub all-are-replicate : (x n : ℕ) → allAre x (replicate n x) ≡ true
-unfolding allAre
-all-are-replicate x zero = refl
-all-are-replicate x (suc n) = rw (eq-eqb x x refl) (all-are-replicate x n)
-
-pub replicate-all-are : (x : ℕ) (s : List ℕ) → allAre x s ≡ true → s ≡ replicate (length s) x
-unfolding allAre
-replicate-all-are x [] h = refl
-replicate-all-are x (y ∷ s) h =
-    let p = and-eq-true-iff (eqb y x) (allAre x s) .0 h in
-    ap₂ (λ (v : ℕ) (l : List ℕ). v ∷ l) (eqb-true y x (p .0)) (replicate-all-are x s (p .1))
 
 pub all-are-each : (x : ℕ) (s : List ℕ) → ((i : ℕ) → i < length s → getD s i 0 ≡ x) → allAre x s ≡ true
 unfolding allAre
@@ -147,33 +102,6 @@ number-octets (suc n) v =
 
 pub number-octets-small : (n v : ℕ) → v < 256 ^ n → numberOf (octetsOf n v) ≡ v
 number-octets-small n v h = number-octets n v ∙ mod-eq-of-lt h
-
-pub number-lt : (s : List ℕ) → Octets s → numberOf s < 256 ^ length s
-unfolding numberOf
-number-lt [] o = omega arith
-number-lt (x ∷ s) o =
-    let h : x ≤ 255 = omega (arith, o 0) in
-    omega (arith, pow-suc 256 (length s), mul-le-mul-right (256 ^ length s) h, number-lt s (λ i. o (suc i)))
-
--- octets above the low n do not matter
-pub octets-add : (n q v : ℕ) → octetsOf n (q * 256 ^ n + v) ≡ octetsOf n v
-unfolding octetsOf
-octets-add zero q v = refl
-octets-add (suc n) q v = rw (pow-succ' 256 n, ← mul-assoc q 256 (256 ^ n)) (ap₂ (λ (x : ℕ) (l : List ℕ). x ∷ l) head (octets-add n (q * 256) v))
-  where
-    head : (q * 256 * 256 ^ n + v) / 256 ^ n % 256 ≡ v / 256 ^ n % 256
-    head = rw (mul-add-div-right (pos n) (q * 256) v) (mul-add-mod-self-right q 256 (v / 256 ^ n))
-
-pub octets-number : (s : List ℕ) → Octets s → octetsOf (length s) (numberOf s) ≡ s
-unfolding octetsOf numberOf
-octets-number [] o = refl
-octets-number (x ∷ s) o =
-    ap₂ (λ (v : ℕ) (l : List ℕ). v ∷ l)
-    (ap (λ (k : ℕ). k % 256) (digits-div x (number-lt s (λ i. o (suc i)))) ∙ mod-eq-of-lt (o 0))
-    (octets-add (length s) x (numberOf s) ∙ octets-number s (λ i. o (suc i)))
-
-pub number-inj : (a b : List ℕ) → Octets a → Octets b → length a ≡ length b → numberOf a ≡ numberOf b → a ≡ b
-number-inj a b oa ob e h = sym (octets-number a oa) ∙ ap₂ (λ (n v : ℕ). octetsOf n v) e h ∙ octets-number b ob
 
 -- the number of four octets, as a sum
 pub number-four : (a b c d : ℕ) → numberOf (a ∷ b ∷ c ∷ d ∷ []) ≡ a * 16777216 + b * 65536 + c * 256 + d

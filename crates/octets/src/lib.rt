@@ -1,8 +1,8 @@
-// Octets: numbers from and to them, high octet first; comparing runs of them; storing a run into a lent buffer.
+// Octets: numbers from and to them, high octet first; storing a run into a lent buffer.
 ghost use mathlib.Core.Path.{_≡_};
 ghost use mathlib.Core.List.{[], _∷_};
 ghost use lib.ListN.{length};
-ghost use Rattle.octets.specs.Octets.{numberOf, octetsOf, sameOctets, allAre, stored};
+ghost use Rattle.octets.specs.Octets.{numberOf, octetsOf, allAre, stored};
 
 // The number that two octets make.
 pub fn u16_of(a: u8, b: u8) -> u16
@@ -35,23 +35,6 @@ pub fn of_u32(v: u32) -> [u8; 4]
         (v / 256 % 256) as u8,
         (v % 256) as u8,
     ]
-}
-
-// Whether two runs of octets are equal.
-pub fn same(a: &[u8], b: &[u8]) -> bool
-    ensures { λ r. ⌜ r ≡ sameOctets (now (a .entry)) (now (b .entry)) ⌝ }
-{
-    if a.len() != b.len() {
-        return false;
-    }
-    let mut i = 0;
-    while i < a.len() {
-        if a[i] != b[i] {
-            return false;
-        }
-        i += 1;
-    }
-    true
 }
 
 // Whether every octet is x.

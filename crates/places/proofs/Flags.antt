@@ -1,18 +1,17 @@
 -- Laws of sets that are made of flags, and of what they pick from a list.
 -- Assumes nothing.
 use Prim.Native.Nat.{ℕ, zero, suc, _+_, _-_, _*_, _/_, _%_, _^_, _≤_, _<_, min, max}
-use native.Mathlib.Nat.{le-of-suc-le-suc, not-suc-le-zero, le-refl, lt-of-lt-of-le, zero-add, max-zero, div-one, two-pow-succ, div-add-mod', mul-le-mul-right}
+use native.Mathlib.Nat.{le-of-suc-le-suc, not-suc-le-zero, le-refl, zero-add, max-zero, div-one, two-pow-succ, div-add-mod', mul-le-mul-right}
 use native.Mathlib.Omega.{arith}
-use mathlib.Core.Path.{_≡_, refl, ap, ap₂, sym, _∙_}
+use mathlib.Core.Path.{_≡_, refl, ap, sym, _∙_}
 use mathlib.Core.Bool.{Bool, true, false, cond}
-use mathlib.Core.List.{List, [], _∷_, _++_, map, List·Memᴰ, List·Memᴰ·head, List·Memᴰ·tail, List·Memᴰ·not-nil}
+use mathlib.Core.List.{List, [], _∷_, _++_, map}
 use lib.ListN.{length, getD, set, replicate, length-map, List·getD-map, List·getD-eq-default}
-use lib.Pow.{pow-pos, pow-mono, shr-shr}
+use lib.Pow.{pow-pos, shr-shr}
 use lib.Bits.{bitOr, or-step, or-zero-r}
-use lib.Count.{ones}
 use borrow.Author.Tests.{lt-ltb, le-ltb, eq-eqb, ne-eqb}
 use Rattle.places.specs.Places.{placesFrom, places, setOf, picked, withPlace, withoutPlace}
-use Rattle.places.proofs.Bits.{half-even, half-odd, low-even, low-odd, over, from-even, from-odd, from-zero, ones-even, ones-odd}
+use Rattle.places.proofs.Bits.{half-even, half-odd, low-even, low-odd, over, from-even, from-odd, from-zero}
 use Rattle.places.proofs.Laws.{Rises, rises-weaken, rises-below, rises-at}
 
 -- the places of the true flags of bs, counted from i
@@ -45,9 +44,6 @@ setOf-lt [] = rw setOf-none (omega arith)
 setOf-lt (false ∷ bs) = rw (setOf-false bs) (omega (arith, setOf-lt bs, two-pow-succ (length bs)))
 setOf-lt (true ∷ bs) = rw (setOf-true bs) (omega (arith, setOf-lt bs, two-pow-succ (length bs)))
 
-pub setOf-fits : (bs : List Bool) → length bs ≤ 64 → setOf bs < 2 ^ 64
-setOf-fits bs h = lt-of-lt-of-le (setOf-lt bs) (pow-mono h)
-
 -- its places are those of the true flags
 from-setOf : (n i : ℕ) (bs : List Bool) → length bs ≤ n → placesFrom n i (setOf bs) ≡ truesFrom i bs
 from-setOf n i [] h = rw setOf-none (from-zero n i)
@@ -77,11 +73,6 @@ bit-setOf [] zero = rw setOf-none
 bit-setOf [] (suc i) = rw (setOf-none, half-shift 0 i) (rw setOf-none at (bit-setOf [] i))
 bit-setOf (b ∷ bs) zero = rw (div-one (setOf (b ∷ bs))) (setOf-low b bs)
 bit-setOf (b ∷ bs) (suc i) = rw (half-shift (setOf (b ∷ bs)) i, setOf-half b bs) (bit-setOf bs i)
-
--- flags that are all alike
-pub setOf-falses : (n : ℕ) → setOf (replicate n false) ≡ 0
-setOf-falses zero = setOf-none
-setOf-falses (suc n) = rw (setOf-false (replicate n false), setOf-falses n)
 
 pub setOf-trues : (n : ℕ) → setOf (replicate n true) ≡ 2 ^ n - 1
 setOf-trues zero = setOf-none
@@ -151,21 +142,6 @@ withoutPlace-set bs i h q =
     let b : setOf bs / 2 ^ i % 2 ≡ 1 = bit-setOf bs i ∙ rw q in
     rw (lt-ltb i 64 h, b) (omega (arith, setOf-clear bs i q))
 
-same-flag : (b c : Bool) → _≡_ {A = ℕ} (cond b 1 0) (cond c 1 0) → b ≡ c
-same-flag false false e = refl
-same-flag false true e = absurd (omega arith)
-same-flag true false e = absurd (omega arith)
-same-flag true true e = refl
-
--- a set tells the flags that it is made of
-pub setOf-injective : (bs cs : List Bool) → length bs ≡ length cs → setOf bs ≡ setOf cs → bs ≡ cs
-setOf-injective [] [] h e = refl
-setOf-injective [] (c ∷ cs) h e = absurd (omega arith)
-setOf-injective (b ∷ bs) [] h e = absurd (omega arith)
-setOf-injective (b ∷ bs) (c ∷ cs) h e =
-    ap₂ _∷_ (same-flag b c (sym (setOf-low b bs) ∙ ap (λ (s : ℕ). s % 2) e ∙ setOf-low c cs))
-    (setOf-injective bs cs (omega arith) (sym (setOf-half b bs) ∙ ap (λ (s : ℕ). s / 2) e ∙ setOf-half c cs))
-
 -- ---- what a set picks from a list
 
 module _ {A : Type 0} where
@@ -180,13 +156,6 @@ module _ {A : Type 0} where
   picked-trues (b ∷ bs) [] d h = absurd (omega arith)
   picked-trues (false ∷ bs) (x ∷ l) d h = map-truesFrom (λ (i : ℕ). getD (x ∷ l) i d) 0 bs ∙ picked-trues bs l d (omega arith)
   picked-trues (true ∷ bs) (x ∷ l) d h = ap (x ∷_) (map-truesFrom (λ (i : ℕ). getD (x ∷ l) i d) 0 bs ∙ picked-trues bs l d (omega arith))
-
-  pub length-picked : (bs : List Bool) (l : List A) → length l ≡ length bs → length (picked bs l) ≡ ones (setOf bs)
-  unfolding picked ones
-  length-picked [] l h = rw setOf-none
-  length-picked (b ∷ bs) [] h = absurd (omega arith)
-  length-picked (false ∷ bs) (x ∷ l) h = rw (setOf-false bs, ones-even (setOf bs)) (length-picked bs l (omega arith))
-  length-picked (true ∷ bs) (x ∷ l) h = rw (setOf-true bs, ones-odd (setOf bs)) (ap suc (length-picked bs l (omega arith)))
 
   module _ (bs : List Bool) (l : List A) (d : A) (h : length l ≡ length bs) (k : length bs ≤ 64) where
     -- the elements at the places of the set are those that the flags pick
@@ -217,11 +186,3 @@ module _ {A : Type 0} where
   unfolding picked
   picked-all [] = refl
   picked-all (x ∷ l) = ap (x ∷_) (picked-all l)
-
-  pub mem-picked : (bs : List Bool) (l : List A) {a : A} → List·Memᴰ a (picked bs l) → List·Memᴰ a l
-  unfolding picked
-  mem-picked [] l m = absurd (List·Memᴰ·not-nil m)
-  mem-picked (b ∷ bs) [] m = m
-  mem-picked (false ∷ bs) (x ∷ l) m = List·Memᴰ·tail (mem-picked bs l m)
-  mem-picked (true ∷ bs) (x ∷ l) (List·Memᴰ·head e) = List·Memᴰ·head e
-  mem-picked (true ∷ bs) (x ∷ l) (List·Memᴰ·tail m) = List·Memᴰ·tail (mem-picked bs l m)

@@ -1,7 +1,7 @@
 -- Laws of the places of a set: how many they are, their order, the lowest and the rest.
 -- Assumes nothing.
 use Prim.Native.Nat.{ℕ, zero, suc, _+_, _-_, _*_, _/_, _%_, _^_, _≤_, _<_}
-use native.Mathlib.Nat.{le-of-suc-le-suc, not-suc-le-zero, le-refl, zero-lt-suc, zero-add, add-zero, zero-mul, mul-one, one-mul, pow-suc, two-pow-succ, lt-of-lt-of-le}
+use native.Mathlib.Nat.{le-of-suc-le-suc, not-suc-le-zero, le-refl, zero-lt-suc, zero-add, add-zero, one-mul, two-pow-succ, lt-of-lt-of-le}
 use native.Mathlib.Omega.{arith}
 use mathlib.Core.Path.{_≡_, refl, ap, ap₂, sym, _∙_, subst}
 use mathlib.Core.Bool.{Bool, true, false, cond}
@@ -96,9 +96,6 @@ module _ (s : ℕ) where
   pub place-lt : (k d : ℕ) → k < length (places s) → getD (places s) k d < 64
   place-lt k d h = rises-below 0 64 (places s) k d places-rise h
 
-  pub place-rises : (j k d : ℕ) → j < k → k < length (places s) → getD (places s) j d < getD (places s) k d
-  place-rises j k d g h = rises-at 0 64 (places s) j k d places-rise g h
-
   -- the lowest place, and the set without it
   pub places-first : trailingZeros 64 s ≡ getD (places s) 0 64
   unfolding places
@@ -166,20 +163,6 @@ places-none = from-zero 64 0
 abbrev pub total : List ℕ → ℕ
 total [] = 0
 total (p ∷ l) = 2 ^ p + total l
-
-from-total : (n i s : ℕ) → s < 2 ^ n → total (placesFrom n i s) ≡ s * 2 ^ i
-from-total =
-    by-bits (λ n i s. s < 2 ^ n → total (placesFrom n i s) ≡ s * 2 ^ i)
-    (λ i s h. rw (from-none i s) (sym (ap (λ (m : ℕ). m * 2 ^ i) (lt-one h) ∙ zero-mul (2 ^ i))))
-    (λ n i q ih h. rw (from-even n i q) (ih (omega arith) ∙ rw pow-suc (omega arith)))
-    (λ n i q ih h. rw (from-odd n i q, ih (omega arith), pow-suc 2 i) (omega arith))
-
-pub places-total : (s : ℕ) → s < 2 ^ 64 → total (places s) ≡ s
-unfolding places
-places-total s h = from-total 64 0 s h ∙ mul-one s
-
-pub places-injective : (s t : ℕ) → s < 2 ^ 64 → t < 2 ^ 64 → places s ≡ places t → s ≡ t
-places-injective s t h k e = sym (places-total s h) ∙ ap total e ∙ places-total t k
 
 -- what a walk of k steps comes to: past the last place, and at a place
 module _ (l : List ℕ) (i k d : ℕ) where

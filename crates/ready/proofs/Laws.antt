@@ -20,7 +20,7 @@ use Rattle.rows.proofs.Places.{found-at, found-missing, at-lt}
 use Rattle.layout.specs.Table.{Entry, entryKey, noEntry}
 use Rattle.places.specs.Places.{setOf, withPlace}
 use Rattle.places.proofs.Flags.{withPlace-set}
-use Rattle.ready.specs.Ready.{onList, eligible, candidates, candidateSet}
+use Rattle.ready.specs.Ready.{onList, eligible, candidateSet}
 
 -- one key more on a list of flags
 module _ {A : Type 0} (key : A → ℕ) (f : A → Bool) (k : ℕ) where

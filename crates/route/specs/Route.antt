@@ -17,8 +17,8 @@
 --   routeWritten b d e a      == what a buffer holds after the writer, where it held b
 use Prim.Native.Nat.{ℕ}
 use mathlib.Core.Path.{_≡_}
-use mathlib.Core.Bool.{Bool, true, cond, not, _||_}
-use mathlib.Core.List.{List, [], _∷_, _++_}
+use mathlib.Core.Bool.{true, cond, not, _||_}
+use mathlib.Core.List.{List, _∷_, _++_}
 use lib.ListN.{length, getD, take, drop, replicate}
 use lib.Dec.{ltb, eqb}
 use Rattle.octets.specs.Octets.{numberOf, octetsOf}

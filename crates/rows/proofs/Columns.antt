@@ -1,6 +1,6 @@
 -- Columns: rows that lie one after the other, then zeros; what an insertion, a removal and a store make of a column, over any width and capacity. Assumes nothing.
 use Prim.Native.Nat.{ℕ, zero, suc, _+_, _-_, _*_, _≤_, _<_}
-use native.Mathlib.Nat.{suc-mul, zero-mul, add-mul, mul-le-mul-right}
+use native.Mathlib.Nat.{suc-mul, zero-mul}
 use native.Mathlib.Omega.{arith}
 use mathlib.Core.Path.{_≡_, refl, ap, sym, _∙_}
 use mathlib.Core.List.{List, [], _∷_, _++_, append-assoc}
@@ -8,9 +8,8 @@ use lib.ListN.{length, getD, set, take, drop, replicate, length-append, length-d
 use lib.Seq.{length-take-le, take-at, drop-at, drop-cons}
 use Rattle.keyed.specs.Keyed.{spliced, cut, Every}
 use Rattle.keyed.proofs.Keyed as keyed
-use Rattle.rows.specs.Rows.{rowAt, rowsIn, flat, column, inserted, removed}
+use Rattle.rows.specs.Rows.{rowsIn, flat, column, inserted, removed}
 use Rattle.rows.proofs.Moved.{words-split}
-use Rattle.rows.proofs.Rows.{rows-at, rows-length}
 
 -- every row has k words
 abbrev pub Wide : ℕ → List (List ℕ) → Type 0

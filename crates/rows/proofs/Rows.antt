@@ -1,18 +1,14 @@
 -- The rows of a run of words, over any width: the row at a place, what a search finds, and the rows after an insertion and after a removal, which are
 -- those of `keyed` where the search's place is used. Assumes nothing.
-use Prim.Native.Nat.{ℕ, zero, suc, _+_, _-_, _*_, _≤_, _<_, zero-le}
+use Prim.Native.Nat.{ℕ, zero, suc, _+_, _-_, _*_, _≤_, _<_}
 use native.Mathlib.Nat.{suc-mul, zero-mul, mul-le-mul-right, add-comm}
 use native.Mathlib.Omega.{arith}
 use mathlib.Core.Path.{_≡_, refl, ap, ap₂, sym, _∙_}
-use mathlib.Core.List.{List, [], _++_, map, append-assoc}
-use lib.ListN.{length, getD, set, take, drop, replicate, length-append, length-drop, length-replicate, length-map, take-append-drop, List·getD-map}
-use lib.Seq.{length-take-le, take-at, drop-at, take-append-le, drop-append-le, drop-drop, take-set-le, drop-set-add}
-use Rattle.keyed.specs.Keyed.{Rising, has, rank, insert, remove, spliced, cut}
+use mathlib.Core.List.{List, [], _++_, map}
+use lib.ListN.{length, getD, take, drop, length-append, length-drop, length-replicate, length-map, take-append-drop, List·getD-map}
+use lib.Seq.{length-take-le, take-at, drop-at, take-append-le, drop-append-le, drop-drop}
 use Rattle.keyed.proofs.Keyed as keyed
-use Rattle.rows.specs.Rows.{rowAt, rowsIn, rowKey, Words, foundIn, inserted, removed}
-use Rattle.rows.specs.declared.Found.the-variants.{At, Missing}
-use Rattle.rows.proofs.Compared.{key-same, words-part}
-use Rattle.rows.proofs.Places.{found-at, found-missing, missing-le, at-lt}
+use Rattle.rows.specs.Rows.{rowAt, rowsIn, rowKey, inserted, removed}
 use Rattle.rows.proofs.Moved.{words-split, words-le, words-last}
 
 -- ROWS
@@ -54,15 +50,6 @@ module _ (k : ℕ) where
       let l : n * k ≤ length (take m s) = omega (arith, length-take-le m s h) in
       rows-front n (take m s) t l ∙ sym (rows-front n (take m s) (drop m s) l) ∙ ap (rowsIn k n) (take-append-drop m s)
 
-  pub rows-set : (n : ℕ) (s : List ℕ) (i v : ℕ) → n * k ≤ i → rowsIn k n (set s i v) ≡ rowsIn k n s
-  unfolding rowsIn
-  rows-set zero s i v h = refl
-  rows-set (suc n) s i v h =
-      let e = suc-mul n k in
-      let j : i ≡ k + (i - k) = omega arith in
-      let d : drop k (set s i v) ≡ set (drop k s) (i - k) v = ap (λ (p : ℕ). drop k (set s p v)) j ∙ drop-set-add k s (i - k) v in
-      rw (take-set-le k s i v (omega arith), d, rows-set n (drop k s) (i - k) v (omega arith))
-
   -- the first rows, and the rest
   rows-join : (m n : ℕ) (s : List ℕ) → rowsIn k (m + n) s ≡ rowsIn k m s ++ rowsIn k n (drop (m * k) s)
   unfolding rowsIn
@@ -97,38 +84,6 @@ module _ (k : ℕ) where
         (rows-part at (at * k) s x refl (omega (arith, words-le n at k h)) ∙ sym (rows-take n at s h))
         (ap (rowsIn k m) (drop-at (take (at * k) s) x (at * k) starts))
 
-pub rows-inserted : (n at : ℕ) (key s : List ℕ) → at ≤ n → n * length key + length key ≤ length s
-    → rowsIn (length key) (n + 1) (inserted n at key s) ≡ spliced (rowsIn (length key) n s) at key
-unfolding inserted spliced rowsIn
-rows-inserted n at key s h l =
-    let k = length key in
-    let m = take ((n - at) * k) (drop (at * k) s) in
-    let r = drop (n * k + k) s in
-    let e : n + 1 ≡ at + suc (n - at) = omega arith in
-    let w = words-split n at k h in
-    rw (e, append-assoc (take (at * k) s ++ key) m r, append-assoc (take (at * k) s) key (m ++ r))
-    (rows-after k n at s (key ++ (m ++ r)) h (omega arith) (suc (n - at))
-    ∙ ap (λ (q : List (List ℕ)). take at (rowsIn k n s) ++ q)
-    (rw (take-at key (m ++ r) k refl, drop-at key (m ++ r) k refl, rows-part k (n - at) ((n - at) * k) (drop (at * k) s) r refl (simp length-drop (omega arith)), rows-drop k n at s h)))
-
-pub rows-removed : (k n at : ℕ) (s : List ℕ) → at < n → n * k ≤ length s → rowsIn k (n - 1) (removed k n at s) ≡ cut (rowsIn k n s) at
-unfolding removed cut
-rows-removed k n at s h l =
-    let m = take ((n - 1 - at) * k) (drop (at * k + k) s) in
-    let z : List ℕ = replicate k 0 in
-    let r = drop (n * k) s in
-    let e : n - 1 ≡ at + (n - 1 - at) = omega arith in
-    let f : n - suc at ≡ n - 1 - at = omega arith in
-    let w = words-split n (suc at) k h in
-    let v = suc-mul at k in
-    let g : (n - suc at) * k ≡ (n - 1 - at) * k = ap (λ (p : ℕ). p * k) f in
-    rw (append-assoc (take (at * k) s ++ m) z r, append-assoc (take (at * k) s) m (z ++ r))
-    (ap (λ (p : ℕ). rowsIn k p (take (at * k) s ++ (m ++ (z ++ r)))) e
-    ∙ rows-after k n at s (m ++ (z ++ r)) (omega arith) l (n - 1 - at)
-    ∙ ap (λ (q : List (List ℕ)). take at (rowsIn k n s) ++ q)
-    (rows-part k (n - 1 - at) ((n - 1 - at) * k) (drop (at * k + k) s) (z ++ r) refl (simp length-drop (omega arith))
-    ∙ sym (rows-drop k n (suc at) s h ∙ ap₂ (λ (p q : ℕ). rowsIn k p (drop q s)) f v)))
-
 -- WORDS OUTSIDE the rows
 pub length-inserted : (n at : ℕ) (key s : List ℕ) → at ≤ n → n * length key + length key ≤ length s → length (inserted n at key s) ≡ length s
 unfolding inserted
@@ -149,64 +104,4 @@ length-removed k n at s h l =
     let z = length-replicate {A = ℕ} k 0 in
     simp (length-append, length-drop) (omega arith)
 
-pub past-inserted : (n at : ℕ) (key s : List ℕ) → at ≤ n → n * length key + length key ≤ length s
-    → drop (n * length key + length key) (inserted n at key s) ≡ drop (n * length key + length key) s
-unfolding inserted
-past-inserted n at key s h l =
-    let k = length key in
-    let w = words-split n at k h in
-    let a = length-take-le (at * k) s (omega arith) in
-    let b = length-take-le ((n - at) * k) (drop (at * k) s) (simp length-drop (omega arith)) in
-    drop-at (take (at * k) s ++ key ++ take ((n - at) * k) (drop (at * k) s)) _ (n * k + k) (simp length-append (omega arith))
-
-pub past-removed : (k n at : ℕ) (s : List ℕ) → at < n → n * k ≤ length s
-    → drop ((n - 1) * k) (removed k n at s) ≡ replicate k 0 ++ drop (n * k) s
-unfolding removed
-past-removed k n at s h l =
-    let w = words-split (n - 1) at k (omega arith) in
-    let v = words-last n k (omega arith) in
-    let a = length-take-le (at * k) s (omega arith) in
-    let b = length-take-le ((n - 1 - at) * k) (drop (at * k + k) s) (simp length-drop (omega arith)) in
-    let m = take (at * k) s ++ take ((n - 1 - at) * k) (drop (at * k + k) s) in
-    ap (drop ((n - 1) * k)) (append-assoc m (replicate k 0) (drop (n * k) s))
-    ∙ drop-at m (replicate k 0 ++ drop (n * k) s) ((n - 1) * k) (simp length-append (omega arith))
-
 -- INSERTION AND REMOVAL at the place that a search found
-pub insert-missing : (n at : ℕ) (key s : List ℕ) → n * length key + length key ≤ length s
-    → foundIn rowKey (rowKey key) (rowsIn (length key) n s) ≡ Missing at
-    → rowsIn (length key) (n + 1) (inserted n at key s) ≡ insert rowKey key (rowsIn (length key) n s)
-insert-missing n at key s l e =
-    let rows = rowsIn (length key) n s in
-    let f = found-missing rowKey (rowKey key) rows at e in
-    rows-inserted n at key s (omega (arith, missing-le rowKey (rowKey key) rows at e, rows-length (length key) n s)) l
-    ∙ sym (keyed.insert-absent rowKey key rows [] (keyed.absent-of rowKey (rowKey key) rows [] (f .0)) ∙ ap (λ (i : ℕ). spliced rows i key) (f .1))
-
-pub remove-found : (k n at m : ℕ) (s : List ℕ) → n * k ≤ length s → Rising rowKey 0 (rowsIn k n s) → foundIn rowKey m (rowsIn k n s) ≡ At at
-    → rowsIn k (n - 1) (removed k n at s) ≡ remove rowKey m (rowsIn k n s)
-remove-found k n at m s l r e =
-    let rows = rowsIn k n s in
-    let f = found-at rowKey m rows at e in
-    rows-removed k n at s (omega (arith, at-lt rowKey m rows 0 [] r at e, rows-length k n s)) l
-    ∙ sym (keyed.remove-present rowKey m rows [] (keyed.present-of rowKey m rows 0 [] r (f .0)) ∙ ap (cut rows) (f .1))
-
--- both keep the order
-pub rising-inserted : (n at : ℕ) (key s : List ℕ) → n * length key + length key ≤ length s → Rising rowKey 0 (rowsIn (length key) n s)
-    → foundIn rowKey (rowKey key) (rowsIn (length key) n s) ≡ Missing at → Rising rowKey 0 (rowsIn (length key) (n + 1) (inserted n at key s))
-rising-inserted n at key s l r e = rw (insert-missing n at key s l e) (keyed.rising-insert rowKey key (rowsIn (length key) n s) 0 zero-le r)
-
-pub rising-removed : (k n at m : ℕ) (s : List ℕ) → n * k ≤ length s → Rising rowKey 0 (rowsIn k n s) → foundIn rowKey m (rowsIn k n s) ≡ At at
-    → Rising rowKey 0 (rowsIn k (n - 1) (removed k n at s))
-rising-removed k n at m s l r e = rw (remove-found k n at m s l r e) (keyed.rising-remove rowKey m (rowsIn k n s) 0 r)
-
--- a key that is found stands there, word for word
-pub found-row : (n at : ℕ) (key s : List ℕ) → n * length key ≤ length s → Words s → Words key → Rising rowKey 0 (rowsIn (length key) n s)
-    → foundIn rowKey (rowKey key) (rowsIn (length key) n s) ≡ At at → rowAt (length key) s at ≡ key
-found-row n at key s l os ok r e =
-    let k = length key in
-    let rows = rowsIn k n s in
-    let f = found-at rowKey (rowKey key) rows at e in
-    let h : at < n = omega (arith, at-lt rowKey (rowKey key) rows 0 [] r at e, rows-length k n s) in
-    let p = rw (f .1) at (keyed.present-of rowKey (rowKey key) rows 0 [] r (f .0) .1) in
-    let w = row-fits k n at h in
-    key-same (rowAt k s at) key (length-take-le k (drop (at * k) s) (simp length-drop (omega arith))) (words-part k (at * k) s os) ok
-    (ap rowKey (sym (rows-at k n s at h)) ∙ p)

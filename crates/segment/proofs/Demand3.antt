@@ -1,7 +1,7 @@
 -- Demand 3 holds of every identifier and every list of calls: the general theorem on journals, at a segment's calls and a capacity of 64.
 -- Assumes nothing.
 use Prim.Native.Nat.{ℕ, zero, suc, _≤_}
-use mathlib.Core.Path.{_≡_, refl, ap, sym, _∙_, subst}
+use mathlib.Core.Path.{_≡_, refl, ap, sym, _∙_}
 use mathlib.Core.Bool.{Bool, true, false, cond}
 use mathlib.Core.List.{List, [], _∷_, _++_, map, List·Permᴰ, List·Permᴰ·trans, Permᴰ·symm, Permᴰ·map}
 use mathlib.Core.Option.{Option, none}
@@ -10,7 +10,7 @@ use lib.Dec.{eqb}
 use Rattle.keyed.specs.Keyed.{Rising, insert, arranged}
 use Rattle.keyed.specs.Journal.{after, answers, heldAt, heard, lastHeld}
 use Rattle.keyed.proofs.Keyed.{map-insert}
-use Rattle.keyed.proofs.Order.{Distinct, perm-length, perm-arranged, rising-arranged-all, rising-unique}
+use Rattle.keyed.proofs.Order.{Distinct, perm-arranged, rising-arranged-all, rising-unique}
 use Rattle.keyed.proofs.Journal as journal
 use Rattle.layout.specs.Table.{Entry, Table, entryKey, WellFormed, ownerOf}
 use Rattle.table.specs.Table.{freshTable, Told}

@@ -7,13 +7,10 @@ use Prim.Native.Nat.{ℕ}
 use mathlib.Core.Bool.{Bool, true, false, cond, _&&_}
 use mathlib.Core.List.{List, [], _∷_}
 use Rattle.octets.specs.Octets.{sameOctets}
-use Rattle.community.specs.declared.Election.{Election}
 use Rattle.community.specs.Community.{electionUnder, communityOctets, readCommunity}
 use Rattle.hrw.specs.Weight.{weightOf}
-use Rattle.election.specs.declared.Answer.{Answer}
 use Rattle.winner.specs.Winner.{elected}
 use Rattle.election.specs.Election.{electOf}
-use Rattle.returning.specs.declared.Sent.{Sent}
 use Rattle.returning.specs.Returning.{returningOf}
 use Rattle.layout.specs.Table.{Entry}
 

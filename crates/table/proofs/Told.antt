@@ -31,10 +31,6 @@ use Rattle.table.proofs.Calls as calls
 stored-of : (c x : Change) (b : List ℕ) → x ≡ c → b ≡ wordsOf (x .table) → Stored c (x .number) b
 stored-of c x b e q = (ap (λ (y : Change). y .number) e, q ∙ ap (λ (y : Change). wordsOf (y .table)) e)
 
--- what is told, as one answer
-pub told-change : (c : Change) (n p : ℕ) (b : List ℕ) → Told c n p b → record { number = n; place = p; table = tableIn b } ≡ c
-told-change c n p b o = rw (o .0, o .1, o .2)
-
 -- FRESH
 empty-words : (i : List ℕ) → wordsOf (tableOf i []) ≡ replicate 129 0 ++ i
 unfolding wordsOf column flat

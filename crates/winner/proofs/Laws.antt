@@ -1,21 +1,20 @@
 -- The best candidate of a set of places is found by a walk over the scores. Assumes nothing.
-use Prim.Native.Nat.{ℕ, zero, suc, _+_, _-_, _*_, _%_, _/_, _^_, _≤_, _<_}
+use Prim.Native.Nat.{ℕ, suc, _+_, _-_, _*_, _%_, _^_, _≤_, _<_}
 use native.Mathlib.Nat.{mod-lt}
 use native.Mathlib.Omega.{arith}
-use mathlib.Core.Path.{_≡_, refl, ap, ap₂, _∙_, sym, subst}
+use mathlib.Core.Path.{_≡_, refl, ap, _∙_, sym}
 use mathlib.Core.Bool.{Bool, true, false, cond}
 use mathlib.Core.List.{List, [], _∷_, map}
 use lib.ListN.{length, getD, length-map, List·getD-map, List·getD-eq-default}
-use lib.Dec.{eqb}
 use borrow.Author.Tests.{eq-eqb, ne-eqb}
 use Rattle.keyed.specs.Keyed.{Rising, Every}
 use Rattle.layout.specs.Table.{Entry, entryKey, noEntry}
-use Rattle.layout.specs.Words.{bit, standingOf}
+use Rattle.layout.specs.Words.{standingOf}
 use Rattle.layout.proofs.Words.{Narrow, every-at, bit-less}
 use Rattle.places.specs.Places.{places}
 use Rattle.places.proofs.Laws.{Rises, rises-below, rises-at, places-under, places-walk}
 use Rattle.choice.specs.Choice.{best, bestOf, higher, byScore}
-use Rattle.choice.proofs.Criteria.{Ascending, AscendingAt, ascending-at, ascending-of, ascending-weaken, best-walk}
+use Rattle.choice.proofs.Criteria.{Ascending, ascending-at, ascending-of, best-walk}
 use Rattle.winner.specs.Winner.{better, elected, entriesAt}
 use Rattle.winner.specs.Steps.{scoreOf}
 use Rattle.winner.proofs.Orders.{better-score}

@@ -1,7 +1,7 @@
 -- The order of candidates by score and address is document 01's order, and document 01's order tells addresses apart. Assumes nothing.
 use Prim.Native.Nat.{ℕ, _+_, _-_, _*_, _≤_, _<_}
 use native.Mathlib.Omega.{arith}
-use mathlib.Core.Path.{_≡_, refl, ap, ap₂, _∙_, sym}
+use mathlib.Core.Path.{_≡_, refl, ap₂, _∙_, sym}
 use mathlib.Core.Bool.{Bool, true, false, cond, not, _&&_}
 use lib.Dec.{ltb, eqb}
 use borrow.Author.Tests.{lt-ltb, le-ltb}
@@ -10,7 +10,7 @@ use Rattle.layout.specs.Table.{Entry, entryKey}
 use Rattle.layout.specs.Words.{bit}
 use Rattle.layout.proofs.Words.{Narrow}
 use Rattle.hrw.specs.Weight.{weightOf}
-use Rattle.choice.specs.Choice.{decided, higher, lower, andThen, byScore}
+use Rattle.choice.specs.Choice.{decided, byScore}
 use Rattle.choice.proofs.Laws.{Order}
 use Rattle.choice.proofs.Criteria.{criterion-higher, criterion-lower, criterion-flagged, order-lower, order-then, order-byScore}
 use Rattle.winner.specs.Winner.{byWeight, byPreference, better}

@@ -1,5 +1,4 @@
 -- `capabilities` meets its contract: each return is one setting of the two bits. Assumes nothing.
-use mathlib.Core.Path.{refl}
 use Rattle.community.proofs.capabilities.Statement.{statement}
 use Rattle.community.proofs.capabilities.Tie as tie
 

@@ -6,7 +6,7 @@ use mathlib.Core.Logic.{⊎-elim}
 use denote.Ref.{now}
 use lib.ListN.{length}
 use Rattle.community.specs.Search.{electionsFrom}
-use Rattle.community.proofs.Laws.{fits-at, from-end, from-hit, from-first, from-second}
+use Rattle.community.proofs.Laws.{from-end, from-hit, from-first, from-second}
 use Rattle.community.proofs.find.Statement.{statement}
 use Rattle.community.proofs.find.Tie as tie
 

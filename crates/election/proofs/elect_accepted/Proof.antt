@@ -1,5 +1,5 @@
 -- `elect_accepted` meets its contract: the set is that of the candidates, and the place the elected one among them. Assumes nothing.
-use mathlib.Core.Path.{_≡_, ap, sym, _∙_}
+use mathlib.Core.Path.{_≡_, ap, _∙_}
 use borrow.Author.Needs.{needs}
 use denote.Ref.{now}
 use Rattle.layout.specs.Table.{Table}

@@ -1,5 +1,4 @@
 -- `beside` meets its contract: each return is one case of the definition. Assumes nothing.
-use Prim.Native.Nat.{_<_, _^_}
 use native.Mathlib.Nat.{lt-of-lt-of-le}
 use mathlib.Core.Path.{_≡_, sym, _∙_}
 use mathlib.Core.List.{List}

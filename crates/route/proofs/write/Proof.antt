@@ -1,9 +1,8 @@
 -- `write` meets its contract: the five stores, one after the other, are the octets of the route. Assumes nothing.
 use borrow.Author.Needs.{needs}
 use native.Mathlib.Omega.{arith}
-use mathlib.Core.Path.{_≡_, sym, _∙_, ap}
+use mathlib.Core.Path.{sym, _∙_}
 use denote.Ref.{now}
-use Rattle.octets.specs.Octets.{stored}
 use Rattle.route.proofs.Laws.{wrote-no-distinguisher, wrote-reserved, wrote-zero, wrote-short, wrote}
 use Rattle.route.proofs.write.Statement.{statement}
 use Rattle.route.proofs.write.Tie as tie

@@ -1,14 +1,14 @@
 -- `search` meets its contract. The key's place is between `lo` and `hi`, the row at `hi`, if there is one, is above the key, the next look is between them, and the
 -- looks so far with those that the range takes are those of the definition. Assumes nothing.
-use Prim.Native.Nat.{ℕ, _≤_, _<_, _-_}
+use Prim.Native.Nat.{_≤_, _<_, _-_}
 use native.Mathlib.Omega.{arith}
 use mathlib.Core.Path.{_≡_, ap, sym, _∙_}
-use mathlib.Core.List.{List, [], map}
+use mathlib.Core.List.{[], map}
 use borrow.Author.Needs.{needs}
-use lib.ListN.{length, getD, length-map, List·getD-map}
+use lib.ListN.{length, getD}
 use Rattle.keyed.specs.Keyed.{rank}
 use Rattle.keyed.proofs.Keyed.{rank-le}
-use Rattle.rows.specs.Rows.{rowsIn, rowKey, middle}
+use Rattle.rows.specs.Rows.{rowsIn, rowKey}
 use Rattle.rows.proofs.Compared.{is-less, is-more, is-same}
 use Rattle.rows.proofs.Looks.{few-looks, Counted, count-start, count-right, count-left, count-here, count-end}
 use Rattle.rows.proofs.Rows.{row-fits, rows-length, rows-at, key-at, keys-length}

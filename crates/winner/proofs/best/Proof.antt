@@ -1,15 +1,15 @@
 -- `best` meets its contract: at every turn, the best of the entry kept and those at the places left is the best of the set. Assumes nothing.
-use Prim.Native.Nat.{ℕ, _≤_, _<_, _^_}
+use Prim.Native.Nat.{ℕ, _<_, _^_}
 use native.Mathlib.Nat.{lt-of-lt-of-le}
 use native.Mathlib.Omega.{arith}
-use mathlib.Core.Path.{_≡_, sym, ap, ap₂, _∙_}
+use mathlib.Core.Path.{_≡_, sym, ap, _∙_}
 use mathlib.Core.List.{List, _∷_}
 use mathlib.Core.Logic.{⊎-elim}
 use borrow.Author.Needs.{needs}
 use borrow.Author.Tests.{lt-ltb, le-ltb}
 use lib.ListN.{length, getD}
 use lib.Pow.{pow-mono}
-use Rattle.layout.specs.Table.{Entry, noEntry}
+use Rattle.layout.specs.Table.{noEntry}
 use Rattle.layout.specs.Words.{tableIn, Valid}
 use Rattle.layout.proofs.Words.{narrow-entries}
 use Rattle.places.specs.Places.{places}
