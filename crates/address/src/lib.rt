@@ -1,5 +1,5 @@
 // The originator address of a route: an IPv4 address, high octet first, so that addresses order as numbers.
-// Addresses are compared by their keys, which the rows of words that they are kept as make too (`rows`).
+// Addresses are compared by their keys. An address is kept as a row of words (`rows`), and the row has the same key.
 ghost use mathlib.Core.Path.{_≡_};
 ghost use Rattle.address.specs.Address.{isZero, addressRow};
 

@@ -1,4 +1,4 @@
--- What the step of the agreement promises to it.
+-- What the step of the agreement promises to it. No public promise cites these.
 --   allOfKind k l   == whether all entries of l are of the kind k, an algorithm and an AC-DF bit
 use Prim.Native.Nat.{ℕ}
 use mathlib.Core.Bool.{Bool, true, _&&_}

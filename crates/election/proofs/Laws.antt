@@ -24,7 +24,7 @@ use Rattle.ready.specs.Ready.{eligible, candidates, candidateSet}
 use Rattle.winner.specs.Winner.{better, elected, entriesAt}
 use Rattle.winner.proofs.Orders.{order-better, better-any}
 use Rattle.winner.proofs.Laws.{places-ascending}
-use Rattle.election.specs.Election.{refused, reservedTag, eligibles, answerOf, electOf, NoneNamed, Chosen}
+use Rattle.election.specs.Election.{refusedAnswer, reservedTag, candidatesOf, answerOf, electOf, NoneNamed, Forwarder}
 use Rattle.election.specs.Steps.{digestUnder, namedOf, answerFor}
 use Rattle.election.specs.declared.Answer.{Answer}
 
@@ -49,14 +49,14 @@ elected-under a tag i cs = go (eqb a 1) refl
 -- NONE is named exactly if no candidate is eligible
 none-named : (i : List ℕ) (l : List Entry) (tag : ℕ) (ready : List ℕ) → NoneNamed l tag ready (electOf i l tag ready)
 unfolding electOf answerOf
-none-named i l tag ready = go (reservedTag tag) refl (ltb 64 (length ready)) refl (eqb (length (eligibles l ready)) 0) refl _ refl
+none-named i l tag ready = go (reservedTag tag) refl (ltb 64 (length ready)) refl (eqb (length (candidatesOf l ready)) 0) refl _ refl
   where
     cs : List Entry
-    cs = eligibles l ready
+    cs = candidatesOf l ready
 
     go : (a : Bool) → reservedTag tag ≡ a → (b : Bool) → ltb 64 (length ready) ≡ b → (c : Bool) → eqb (length cs) 0 ≡ c → (r : Answer) → r .number ≡ 0
-        → (cond a (refused 10) (cond b (refused 11) (cond c (refused 12) r)) .number ≡ 12 → cs ≡ [])
-        × (reservedTag tag ≡ false → length ready ≤ 64 → cs ≡ [] → cond a (refused 10) (cond b (refused 11) (cond c (refused 12) r)) .number ≡ 12)
+        → (cond a (refusedAnswer 10) (cond b (refusedAnswer 11) (cond c (refusedAnswer 12) r)) .number ≡ 12 → cs ≡ [])
+        × (reservedTag tag ≡ false → length ready ≤ 64 → cs ≡ [] → cond a (refusedAnswer 10) (cond b (refusedAnswer 11) (cond c (refusedAnswer 12) r)) ≡ refusedAnswer 12)
     go true p b q c e r z = (λ h. absurd (omega (arith, h)), λ f k n. let w : _≡_ {A = ℕ} 0 1 = cc in absurd (omega arith))
     go false p true q c e r z = (λ h. absurd (omega (arith, h)), λ f k n. absurd (omega (arith, ltb-true 64 (length ready) q, k)))
     go false p false q true e r z = (λ h. empty cs (eqb-true (length cs) 0 e), λ f k n. refl)
@@ -64,18 +64,18 @@ none-named i l tag ready = go (reservedTag tag) refl (ltb 64 (length ready)) ref
 
 -- an accepted answer names the elected candidate
 accepted-names : (i : List ℕ) (l : List Entry) (tag : ℕ) (ready : List ℕ) → electOf i l tag ready .number ≡ 0
-    → (length (eligibles l ready) ≡ 0 → ⊥) × (electOf i l tag ready .address ≡ elected (inUse l .algorithm) tag (digestOf tag i) (eligibles l ready) .address)
+    → (length (candidatesOf l ready) ≡ 0 → ⊥) × (electOf i l tag ready .address ≡ elected (inUse l .algorithm) tag (digestOf tag i) (candidatesOf l ready) .address)
 unfolding electOf answerOf
 accepted-names i l tag ready = go (reservedTag tag) (ltb 64 (length ready)) (eqb (length cs) 0) refl
   where
     cs : List Entry
-    cs = eligibles l ready
+    cs = candidatesOf l ready
 
     w : Answer
     w = record { number = 0; address = elected (inUse l .algorithm) tag (digestOf tag i) cs .address; algorithm = inUse l .algorithm; n = length cs; candidates = candidateSet (inUse l .«ac_df») ready l }
 
-    go : (a b c : Bool) → eqb (length cs) 0 ≡ c → cond a (refused 10) (cond b (refused 11) (cond c (refused 12) w)) .number ≡ 0
-        → (length cs ≡ 0 → ⊥) × (cond a (refused 10) (cond b (refused 11) (cond c (refused 12) w)) .address ≡ elected (inUse l .algorithm) tag (digestOf tag i) cs .address)
+    go : (a b c : Bool) → eqb (length cs) 0 ≡ c → cond a (refusedAnswer 10) (cond b (refusedAnswer 11) (cond c (refusedAnswer 12) w)) .number ≡ 0
+        → (length cs ≡ 0 → ⊥) × (cond a (refusedAnswer 10) (cond b (refusedAnswer 11) (cond c (refusedAnswer 12) w)) .address ≡ elected (inUse l .algorithm) tag (digestOf tag i) cs .address)
     go true b c e h = absurd (omega (arith, h))
     go false true c e h = absurd (omega (arith, h))
     go false false true e h = absurd (omega (arith, h))
@@ -93,7 +93,7 @@ module _ (t : Table) (w : WellFormed t) (tag : ℕ) (ready : List ℕ) where
   set = candidateSet (u .«ac_df») ready es
 
   abbrev cs : List Entry
-  cs = eligibles es ready
+  cs = candidatesOf es ready
 
   abbrev bs : List Bool
   bs = map (eligible (u .«ac_df») ready) es
@@ -118,7 +118,7 @@ module _ (t : Table) (w : WellFormed t) (tag : ℕ) (ready : List ℕ) where
   abbrev pub Answers : Answer → Type 0
   Answers r = (r ≡ answerFor (t .esi) es tag ready) × (r .n ≡ ones (r .candidates))
 
-  pub answers-12 : (s : ℕ) → s ≡ set → s ≡ 0 → Answers (refused 12)
+  pub answers-12 : (s : ℕ) → s ≡ set → s ≡ 0 → Answers (refusedAnswer 12)
   unfolding answerOf answerFor
   answers-12 s e z =
       let none-there : length cs ≡ 0 = length-cs ∙ ap (λ (x : ℕ). length (places x)) (sym e ∙ z) ∙ ap length places-none in
@@ -145,11 +145,11 @@ module _ (t : Table) (w : WellFormed t) (tag : ℕ) (ready : List ℕ) where
   unfolding electOf answerFor
   asked h k (p, q) = (p ∙ rw (h, le-ltb 64 (length ready) k), q)
 
-  pub elects-10 : reservedTag tag ≡ true → Elects (refused 10)
+  pub elects-10 : reservedTag tag ≡ true → Elects (refusedAnswer 10)
   unfolding electOf
   elects-10 h = (rw h, ones-none)
 
-  pub elects-11 : reservedTag tag ≡ false → 64 < length ready → Elects (refused 11)
+  pub elects-11 : reservedTag tag ≡ false → 64 < length ready → Elects (refusedAnswer 11)
   unfolding electOf
   elects-11 h k = (rw (h, lt-ltb _ _ k), ones-none)
 
@@ -182,13 +182,13 @@ module _ (t : Table) (w : WellFormed t) (tag : ℕ) (ready : List ℕ) where
   elected-only [] q z x m n = absurd (List·Memᴰ·not-nil m)
   elected-only (y ∷ l) q z x m n = best-only entryKey (better a d) (order-better a d) y l q x m n ∙ sym (rw (ne-eqb a 0 z) (bestOf-cons (better a d) noEntry y l))
 
-  chosen : electOf (t .esi) es tag ready .number ≡ 0 → Chosen (t .esi) es tag ready (electOf (t .esi) es tag ready)
+  chosen : electOf (t .esi) es tag ready .number ≡ 0 → Forwarder (t .esi) es tag ready (electOf (t .esi) es tag ready)
   unfolding elected
   chosen h =
       let n = accepted-names (t .esi) es tag ready h in
       let q = unique-ascending entryKey 0 cs ascending in
       record {
-        forwarder = elected a tag d cs;
+        entry = elected a tag d cs;
         address = n .1;
         candidate = elected-in cs (n .0);
         top = elected-top cs q;
@@ -198,14 +198,14 @@ module _ (t : Table) (w : WellFormed t) (tag : ℕ) (ready : List ℕ) where
 
   -- the promises of the election, from its answer
   pub promised : {r : Answer} → Elects r
-      → (r ≡ electOf (t .esi) es tag ready) × ((r .n ≡ ones (r .candidates)) × (NoneNamed es tag ready r × (r .number ≡ 0 → Chosen (t .esi) es tag ready r)))
+      → (r ≡ electOf (t .esi) es tag ready) × ((r .n ≡ ones (r .candidates)) × (NoneNamed es tag ready r × (r .number ≡ 0 → Forwarder (t .esi) es tag ready r)))
   promised (p, q) = (
     p,
     (
       q,
       (
         subst (λ (x : Answer). NoneNamed es tag ready x) (sym p) (none-named (t .esi) es tag ready),
-        subst (λ (x : Answer). x .number ≡ 0 → Chosen (t .esi) es tag ready x) (sym p) chosen,
+        subst (λ (x : Answer). x .number ≡ 0 → Forwarder (t .esi) es tag ready x) (sym p) chosen,
       ),
     ),
   )

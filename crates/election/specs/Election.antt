@@ -1,12 +1,12 @@
 -- The election for one Ethernet Tag (document 01, "The election"): for an identifier, the entries of its table in rising address order, a tag and a
 -- ready list. The algorithm in use is defined in `agreement`, the candidates in `ready`, the elected one of them in `winner`.
---   refused n               == the answer with the refusal n: every other number is zero
+--   refusedAnswer n         == the answer with the refusal n: every other number is zero
 --   reservedTag tag         == whether the tag is 0 or 4,294,967,295
---   eligibles l ready       == the candidates of the entries l: the eligible ones, by the AC-DF bit in use
+--   candidatesOf l ready    == the candidates among the entries l, with the AC-DF bit in use
 --   answerOf i u cs set tag == the answer once 10 and 11 are passed, with u in use and the candidates cs, whose set is `set`
 --   electOf i l tag ready   == the whole answer
---   NoneNamed l tag ready r == r names nobody, with number 12, exactly if no candidate is eligible
---   Chosen i l tag ready r  == who it is that r names
+--   NoneNamed l tag ready r == r is the refusal 12, which names nobody, exactly if no route is eligible
+--   Forwarder i l tag ready r == who it is that r names
 use Prim.Native.Nat.{ℕ, _%_, _≤_}
 use mathlib.Core.Path.{_≡_}
 use mathlib.Core.Bool.{Bool, false, cond, _||_}
@@ -21,19 +21,19 @@ use Rattle.ready.specs.Ready.{candidates, candidateSet}
 use Rattle.winner.specs.Winner.{better, elected}
 use Rattle.election.specs.declared.Answer.{Answer}
 
--- 10 for a reserved tag, 11 for a list over 64, 12 where no candidate is eligible
-abbrev pub refused : ℕ → Answer
-refused n = record { number = n; address = 0; algorithm = 0; n = 0; candidates = 0 }
+-- 10 for a reserved tag, 11 for a list over 64, 12 where no route is eligible
+abbrev pub refusedAnswer : ℕ → Answer
+refusedAnswer n = record { number = n; address = 0; algorithm = 0; n = 0; candidates = 0 }
 
 unfoldable pub reservedTag : ℕ → Bool
 reservedTag tag = eqb tag 0 || eqb tag 4294967295
 
-abbrev pub eligibles : List Entry → List ℕ → List Entry
-eligibles l ready = candidates (inUse l .«ac_df») ready l
+abbrev pub candidatesOf : List Entry → List ℕ → List Entry
+candidatesOf l ready = candidates (inUse l .«ac_df») ready l
 
 unfoldable pub answerOf : List ℕ → InUse → List Entry → ℕ → ℕ → Answer
 answerOf i u cs set tag =
-    cond (eqb (length cs) 0) (refused 12) (record {
+    cond (eqb (length cs) 0) (refusedAnswer 12) (record {
       number = 0;
       address = elected (u .algorithm) tag (digestOf tag i) cs .address;
       algorithm = u .algorithm;
@@ -43,23 +43,22 @@ answerOf i u cs set tag =
 
 unfoldable pub electOf : List ℕ → List Entry → ℕ → List ℕ → Answer
 electOf i l tag ready =
-    cond (reservedTag tag) (refused 10)
-    (cond (ltb 64 (length ready)) (refused 11)
-    (answerOf i (inUse l) (eligibles l ready) (candidateSet (inUse l .«ac_df») ready l) tag))
+    cond (reservedTag tag) (refusedAnswer 10)
+    (cond (ltb 64 (length ready)) (refusedAnswer 11)
+    (answerOf i (inUse l) (candidatesOf l ready) (candidateSet (inUse l .«ac_df») ready l) tag))
 
--- none is named, and 12 answered, exactly if no candidate is eligible; 10 and 11 come first
+-- none is named, and 12 answered with zeros, exactly if no route is eligible; 10 and 11 come first
 abbrev pub NoneNamed : List Entry → ℕ → List ℕ → Answer → Type 0
 NoneNamed l tag ready r =
-    (r .number ≡ 12 → eligibles l ready ≡ [])
-    × (reservedTag tag ≡ false → length ready ≤ 64 → eligibles l ready ≡ [] → r .number ≡ 12)
+    (r .number ≡ 12 → candidatesOf l ready ≡ [])
+    × (reservedTag tag ≡ false → length ready ≤ 64 → candidatesOf l ready ≡ [] → r ≡ refusedAnswer 12)
 
--- the address named is that of a candidate. Under algorithms 1 to 3 no candidate is better, and no other candidate can say that of itself; under 0 it is
--- the one at tag mod N
-pub record Chosen (i : List ℕ) (l : List Entry) (tag : ℕ) (ready : List ℕ) (r : Answer) : Type 0 where
-  pub forwarder : Entry
-  pub address : r .address ≡ forwarder .address
-  pub candidate : List·Memᴰ forwarder (eligibles l ready)
-  pub top : (inUse l .algorithm ≡ 0 → ⊥) → (x : Entry) → List·Memᴰ x (eligibles l ready) → better (inUse l .algorithm) (digestOf tag i) x forwarder ≡ false
-  pub only : (inUse l .algorithm ≡ 0 → ⊥) → (x : Entry) → List·Memᴰ x (eligibles l ready)
-      → ((y : Entry) → List·Memᴰ y (eligibles l ready) → better (inUse l .algorithm) (digestOf tag i) y x ≡ false) → x ≡ forwarder
-  pub counted : inUse l .algorithm ≡ 0 → forwarder ≡ getD (eligibles l ready) (tag % length (eligibles l ready)) noEntry
+-- the address named is that of a candidate. Under algorithms 1 to 3 no candidate is better, and it is the only such; under 0 it is the one at tag mod N
+pub record Forwarder (i : List ℕ) (l : List Entry) (tag : ℕ) (ready : List ℕ) (r : Answer) : Type 0 where
+  pub entry : Entry
+  pub address : r .address ≡ entry .address
+  pub candidate : List·Memᴰ entry (candidatesOf l ready)
+  pub top : (inUse l .algorithm ≡ 0 → ⊥) → (x : Entry) → List·Memᴰ x (candidatesOf l ready) → better (inUse l .algorithm) (digestOf tag i) x entry ≡ false
+  pub only : (inUse l .algorithm ≡ 0 → ⊥) → (x : Entry) → List·Memᴰ x (candidatesOf l ready)
+      → ((y : Entry) → List·Memᴰ y (candidatesOf l ready) → better (inUse l .algorithm) (digestOf tag i) y x ≡ false) → x ≡ entry
+  pub counted : inUse l .algorithm ≡ 0 → entry ≡ getD (candidatesOf l ready) (tag % length (candidatesOf l ready)) noEntry

@@ -10,7 +10,7 @@ use Rattle.layout.specs.Table.{Entry}
 use Rattle.hrw.specs.Weight.{digestOf}
 use Rattle.agreement.specs.Agreement.{inUse}
 use Rattle.ready.specs.Ready.{candidateSet}
-use Rattle.election.specs.Election.{eligibles, answerOf}
+use Rattle.election.specs.Election.{candidatesOf, answerOf}
 use Rattle.election.specs.declared.Answer.{Answer}
 
 unfoldable pub digestUnder : ℕ → ℕ → List ℕ → ℕ
@@ -20,4 +20,4 @@ abbrev pub namedOf : ℕ → ℕ → ℕ → ℕ → Answer
 namedOf x a n set = record { number = 0; address = x; algorithm = a; n = n; candidates = set }
 
 unfoldable pub answerFor : List ℕ → List Entry → ℕ → List ℕ → Answer
-answerFor i l tag ready = answerOf i (inUse l) (eligibles l ready) (candidateSet (inUse l .«ac_df») ready l) tag
+answerFor i l tag ready = answerOf i (inUse l) (candidatesOf l ready) (candidateSet (inUse l .«ac_df») ready l) tag

@@ -4,7 +4,7 @@ use address::Address;
 ghost use mathlib.Core.Path.{_≡_};
 ghost use lib.Count.{ones};
 ghost use Rattle.layout.specs.Words.{tableIn, Valid};
-ghost use Rattle.election.specs.Election.{refused, electOf, NoneNamed, Chosen};
+ghost use Rattle.election.specs.Election.{refusedAnswer, electOf, NoneNamed, Forwarder};
 ghost use Rattle.election.specs.Steps.{digestUnder, namedOf, answerFor};
 
 // The whole answer: 0 and the elected address, the algorithm in use, the number N of candidates and their set; or a refusal number and zeros.
@@ -42,7 +42,7 @@ fn digest_under(t: &[u32], algorithm: u8, tag: u32) -> u32
 }
 
 fn refusal(number: u8) -> Answer
-    ensures { λ r. ⌜ r ≡ refused number ⌝ }
+    ensures { λ r. ⌜ r ≡ refusedAnswer number ⌝ }
 {
     Answer {
         number: number,
@@ -66,7 +66,7 @@ fn named(address: Address, algorithm: u8, n: u32, set: u64) -> Answer
     }
 }
 
-// The answer once the tag and the list are accepted: 12 where no candidate is eligible. N is the number of the ones of the candidate set.
+// The answer once the tag and the list are accepted: 12 where no route is eligible. N is the number of the ones of the candidate set.
 fn elect_accepted(t: &[u32], tag: u32, ready: &[Address]) -> Answer
     requires { ⌜ Valid (now t) ⌝ }
     ensures answer { λ r. ⌜ r ≡ answerFor (tableIn (now (t .entry)) .esi) (tableIn (now (t .entry)) .entries) tag (now (ready .entry)) ⌝ }
@@ -85,15 +85,15 @@ fn elect_accepted(t: &[u32], tag: u32, ready: &[Address]) -> Answer
     named(address, algorithm, n, set)
 }
 
-// Elects the Designated Forwarder for a tag: 10 for tag 0 or 4,294,967,295, 11 for a ready list over 64, 12 where no candidate is eligible.
-// N is the number of the ones of the candidate set. Where an address is named, it is that of a candidate, and under algorithms 1 to 3 of the only one
-// than which none is better.
+// Elects the Designated Forwarder for a tag: 10 for tag 0 or 4,294,967,295, 11 for a ready list over 64, 12 where no route is eligible.
+// N is the number of the ones of the candidate set. An address that is named is that of a candidate; under algorithms 1 to 3 no candidate is better, and it is
+// the only such.
 pub fn elect(t: &[u32], tag: u32, ready: &[Address]) -> Answer
     requires { ⌜ Valid (now t) ⌝ }
     ensures answer { λ r. ⌜ r ≡ electOf (tableIn (now (t .entry)) .esi) (tableIn (now (t .entry)) .entries) tag (now (ready .entry)) ⌝ }
     ensures counted { λ r. ⌜ r .n ≡ ones (r .candidates) ⌝ }
     ensures none_named { λ r. ⌜ NoneNamed (tableIn (now (t .entry)) .entries) tag (now (ready .entry)) r ⌝ }
-    ensures chosen { λ r. ⌜ (r .number ≡ 0 → Chosen (tableIn (now (t .entry)) .esi) (tableIn (now (t .entry)) .entries) tag (now (ready .entry)) r) ⌝ }
+    ensures forwarder { λ r. ⌜ (r .number ≡ 0 → Forwarder (tableIn (now (t .entry)) .esi) (tableIn (now (t .entry)) .entries) tag (now (ready .entry)) r) ⌝ }
 {
     if tag == 0 {
         return refusal(TAG_RESERVED);

@@ -6,7 +6,7 @@
 --   EntryRight e           == e is what a community can say
 --   Table                  == a table: the identifier, and the entries
 --   tableOf i l            == the table of the identifier i that holds the entries l
---   WellFormed t           == t is a table that the calls can have made
+--   WellFormed t           == what every call keeps of a table; with the sizes of the words it is all that the calls can have made (`Valid`)
 --   ownerOf i              == the identifier that a fresh table for i belongs to: all zeros for a reserved one
 use Prim.Native.Nat.{ℕ, _≤_}
 use mathlib.Core.Path.{_≡_}

@@ -123,7 +123,8 @@ pub fn standing_at(t: &[u32], at: usize) -> u32
     t[ATTRIBUTES + at] % KIND
 }
 
-// Looks an address up, the entry at the place `first` before all others: where it stands, and how many entries were compared with it, seven at most.
+// Looks an address up, the entry at the place `first` before all others (the one in the middle where `first` is no place in use): where it stands, and how
+// many entries were compared with it, seven at most.
 // Every lookup in a table goes through here.
 pub fn lookup(t: &[u32], first: usize, address: Address) -> Lookup
     requires { ⌜ Valid (now t) ⌝ }
@@ -136,7 +137,7 @@ pub fn lookup(t: &[u32], first: usize, address: Address) -> Lookup
     rows::search(t, n, first, &row)
 }
 
-// Where an address stands, or would stand; the entry in the middle is looked at first.
+// Where an address stands, or would stand. No place in use is proposed, so the entry in the middle is looked at first.
 pub fn find(t: &[u32], address: Address) -> Found
     requires { ⌜ Valid (now t) ⌝ }
     ensures { λ r. ⌜ r ≡ foundIn entryKey (addressKey address) (tableIn (now (t .entry)) .entries) ⌝ }

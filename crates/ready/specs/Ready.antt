@@ -2,7 +2,7 @@
 -- Repeats and strangers in the list do no harm.
 --   onList ready a           == whether the address a is on the ready list
 --   eligible ac ready e      == whether the entry e is eligible, where ac tells whether AC-DF is in use
---   candidates ac ready l    == the eligible entries of l, in rising address order
+--   candidates ac ready l    == the eligible entries of l, in their order
 --   candidateSet ac ready l  == the candidate set: bit i is one exactly if the entry at place i is eligible
 use Prim.Native.Nat.{ℕ}
 use mathlib.Core.Bool.{Bool, false, not, _||_}

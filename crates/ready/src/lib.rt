@@ -7,8 +7,8 @@ ghost use Rattle.layout.specs.Words.{tableIn, Valid};
 ghost use Rattle.places.specs.Places.{setOf};
 ghost use Rattle.ready.specs.Ready.{onList, candidateSet};
 
-// The set of the places whose address is on the ready list. Repeats and strangers in the list do no harm. An address is looked for first at the
-// place after the one before it on the list, where it stands if the list rises as the table does.
+// The set of the places whose address is on the ready list. Repeats and strangers in the list do no harm. The first look for an address is at the table's
+// place after the one where the address before it was found, or at the place where that one would stand: where the list rises as the table does, it is there.
 pub fn ready_set(t: &[u32], ready: &[Address]) -> u64
     requires { ⌜ Valid (now t) ⌝ }
     ensures { λ r. ⌜ r ≡ setOf (map (λ e. onList (now (ready .entry)) (e .address)) (tableIn (now (t .entry)) .entries)) ⌝ }

@@ -22,7 +22,7 @@ use Rattle.election.specs.declared.Answer.{Answer}
 use Rattle.election.specs.Election.{electOf}
 use Rattle.returning.specs.declared.Sent.{Sent}
 use Rattle.returning.specs.Returning.{returningOf}
-use Rattle.segment.specs.Calls.{Call, announce, withdraw, elect, returning, changed, elected, sent, numberIn, replyTo, leaves, Changes}
+use Rattle.segment.specs.Calls.{Call, announce, withdraw, elect, returning, changeReply, electReply, returningReply, numberIn, replyTo, leaves, Changes}
 use Rattle.segment.specs.Journal.{Announcement, originatorKey, again, entryFrom, callNumber, callEffect, numberFor}
 
 -- THE TABLE OF ANNOUNCEMENTS that are listed in rising order
@@ -140,17 +140,17 @@ call-kept t (returning a alg p d) w = w
 -- what the code answers is the list's call
 pub announce-changes : (t : Table) (r c : List ℕ) (n p : ℕ) (b : List ℕ) → Told (announced t r c) n p b → Changes t (announce r c) n (tableIn b)
 unfolding replyTo leaves
-announce-changes t r c n p b o = (ap changed (sym (o .0)), sym (o .2))
+announce-changes t r c n p b o = (ap changeReply (sym (o .0)), sym (o .2))
 
 pub withdraw-changes : (t : Table) (a n p : ℕ) (b : List ℕ) → Told (withdrawn t a) n p b → Changes t (withdraw a) n (tableIn b)
 unfolding replyTo leaves
-withdraw-changes t a n p b o = (ap changed (sym (o .0)), sym (o .2))
+withdraw-changes t a n p b o = (ap changeReply (sym (o .0)), sym (o .2))
 
 -- what the code answers to an election and to a returning router is the list's reply
-pub elect-replies : (t : Table) (tag : ℕ) (ready : List ℕ) {r : Answer} → r ≡ electOf (t .esi) (t .entries) tag ready → replyTo t (elect tag ready) ≡ elected r
+pub elect-replies : (t : Table) (tag : ℕ) (ready : List ℕ) {r : Answer} → r ≡ electOf (t .esi) (t .entries) tag ready → replyTo t (elect tag ready) ≡ electReply r
 unfolding replyTo
-elect-replies t tag ready e = ap elected (sym e)
+elect-replies t tag ready e = ap electReply (sym e)
 
-pub returning-replies : (t : Table) (a alg p : ℕ) (d : Bool) {r : Sent} → r ≡ returningOf (t .entries) a alg p d → replyTo t (returning a alg p d) ≡ sent r
+pub returning-replies : (t : Table) (a alg p : ℕ) (d : Bool) {r : Sent} → r ≡ returningOf (t .entries) a alg p d → replyTo t (returning a alg p d) ≡ returningReply r
 unfolding replyTo
-returning-replies t a alg p d e = ap sent (sym e)
+returning-replies t a alg p d e = ap returningReply (sym e)

@@ -17,10 +17,11 @@ use Rattle.table.specs.Table.{freshTable, Told}
 use Rattle.layout.specs.Words.{tableIn}
 use Rattle.table.proofs.Calls.{fresh-kept}
 use Rattle.election.specs.declared.Answer.{Answer}
+use Rattle.layout.specs.Words.{wordsOf}
 use Rattle.election.specs.Election.{electOf}
 use Rattle.returning.specs.declared.Sent.{Sent}
 use Rattle.returning.specs.Returning.{returningOf}
-use Rattle.segment.specs.Calls.{Call, announce, withdraw, elect, returning, Reply, changed, elected, sent, numberIn, replyTo, leaves}
+use Rattle.segment.specs.Calls.{Call, announce, withdraw, elect, returning, Reply, changeReply, electReply, returningReply, numberIn, replyTo, leaves}
 use Rattle.segment.specs.Journal.{Announcement, originatorKey, again, entryFrom, entriesFrom, callNumber, callEffect, numberFor, step, journalReply, held, OnePerAddress}
 use Rattle.segment.specs.Demand3.{tableAfter, Follows, Demand3}
 use Rattle.segment.proofs.Calls.{rules, state, announced-number, withdrawn-number, call-state, refused-leaves, call-kept}
@@ -71,10 +72,10 @@ module _ (i : List ℕ) where
 
   -- announcements alone are answered their numbers
   only-numbers : (js order : List Announcement)
-      → answers (journalReply i) (step i) js (map again order) ≡ map changed (answers (numberFor i) (step i) js (map again order))
+      → answers (journalReply i) (step i) js (map again order) ≡ map changeReply (answers (numberFor i) (step i) js (map again order))
   unfolding answers journalReply
   only-numbers js [] = refl
-  only-numbers js (p ∷ order) = ap (λ (l : List Reply). changed (numberFor i js (again p)) ∷ l) (only-numbers (step i js (again p)) order)
+  only-numbers js (p ∷ order) = ap (λ (l : List Reply). changeReply (numberFor i js (again p)) ∷ l) (only-numbers (step i js (again p)) order)
 
   -- A KEPT JOURNAL: the table of what it holds gives its replies, and its entries are in the only rising order
   abbrev Kept : List Announcement → Type 0
@@ -86,8 +87,8 @@ module _ (i : List ℕ) where
 
     agree : (c : Call) → replyTo (state i (arranged originatorKey js)) c ≡ journalReply i js c
     unfolding replyTo journalReply
-    agree (announce r c) = ap changed (announced-number i (arranged originatorKey js) r c ∙ number-held (announce r c))
-    agree (withdraw a) = ap changed (withdrawn-number i (arranged originatorKey js) a ∙ number-held (withdraw a))
+    agree (announce r c) = ap changeReply (announced-number i (arranged originatorKey js) r c ∙ number-held (announce r c))
+    agree (withdraw a) = ap changeReply (withdrawn-number i (arranged originatorKey js) a ∙ number-held (withdraw a))
     agree (elect tag ready) = refl
     agree (returning a alg p d) = refl
 
@@ -131,12 +132,12 @@ module _ (i : List ℕ) where
 
   -- what is held, announced alone in any order
   module _ (cs : List Call) (order : List Announcement) (h : List·Permᴰ order (after (step i) [] cs)) where
-    again-accepted : answers replyTo leaves (state i []) (map again order) ≡ replicate (length order) (changed 0)
+    again-accepted : answers replyTo leaves (state i []) (map again order) ≡ replicate (length order) (changeReply 0)
     again-accepted =
         tells (map again order)
         ∙ only-numbers [] order
-        ∙ ap (map changed) (journal.again-all originatorKey (callNumber i) callEffect again 64 (rules i) (after (step i) [] cs) order (kept cs) h .1)
-        ∙ map-replicate changed 0 (length order)
+        ∙ ap (map changeReply) (journal.again-all originatorKey (callNumber i) callEffect again 64 (rules i) (after (step i) [] cs) order (kept cs) h .1)
+        ∙ map-replicate changeReply 0 (length order)
 
     again-state : after leaves (state i []) (map again order) ≡ after leaves (state i []) cs
     again-state = journal.same-state originatorKey (callNumber i) callEffect again 64 (rules i) (state i) leaves one cs order h
@@ -163,6 +164,7 @@ demand3 i cs = record {
   sound = calls-kept (freshTable i .table) cs (fresh-kept i);
   accepted = again-accepted (ownerOf i) cs;
   state = again-state (ownerOf i) cs;
+  words = λ order h. ap wordsOf (again-state (ownerOf i) cs order h);
   rising = rising-entries (held i cs);
   all = all-entries (ownerOf i) (held i cs) (kept (ownerOf i) cs);
   only = only-entries (ownerOf i) (held i cs) (kept (ownerOf i) cs);
@@ -192,10 +194,10 @@ pub starts : (i : List ℕ) (n p : ℕ) (b : List ℕ) → Told (freshTable i) n
 unfolding after
 starts i n p b o = o .2
 
-pub elect-follows : (t : Table) (tag : ℕ) (ready : List ℕ) {r : Answer} → replyTo t (elect tag ready) ≡ elected r → Follows t (elect tag ready) (elected r) t
+pub elect-follows : (t : Table) (tag : ℕ) (ready : List ℕ) {r : Answer} → replyTo t (elect tag ready) ≡ electReply r → Follows t (elect tag ready) (electReply r) t
 unfolding leaves
 elect-follows t tag ready e = follows t (elect tag ready) e refl
 
-pub returning-follows : (t : Table) (a alg p : ℕ) (d : Bool) {r : Sent} → replyTo t (returning a alg p d) ≡ sent r → Follows t (returning a alg p d) (sent r) t
+pub returning-follows : (t : Table) (a alg p : ℕ) (d : Bool) {r : Sent} → replyTo t (returning a alg p d) ≡ returningReply r → Follows t (returning a alg p d) (returningReply r) t
 unfolding leaves
 returning-follows t a alg p d e = follows t (returning a alg p d) e refl

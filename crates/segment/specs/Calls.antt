@@ -3,6 +3,7 @@
 --   withdraw a            == the withdrawal of the address a
 --   elect tag ready       == the election for the tag, with the addresses of the ready list
 --   returning a alg p d   == the call for a returning router of the address a and the algorithm alg, with its administrative preference p and DP bit d
+--   changeReply, electReply, returningReply == a reply: the number of an announcement or a withdrawal, the whole answer of the others
 --   replyTo t c           == what the call c answers, on the table t: of an announcement or a withdrawal its number, of the others the whole answer
 --   numberIn r            == the number of the reply r: 0, or a refusal
 --   leaves t c            == the table after the call c on the table t; an election and a call for a returning router hand none back
@@ -25,20 +26,20 @@ pub data Call : Type 0 where
   returning : ℕ → ℕ → ℕ → Bool → Call
 
 pub data Reply : Type 0 where
-  changed : ℕ → Reply
-  elected : Answer → Reply
-  sent : Sent → Reply
+  changeReply : ℕ → Reply
+  electReply : Answer → Reply
+  returningReply : Sent → Reply
 
 unfoldable pub numberIn : Reply → ℕ
-numberIn (changed n) = n
-numberIn (elected a) = a .number
-numberIn (sent s) = s .number
+numberIn (changeReply n) = n
+numberIn (electReply a) = a .number
+numberIn (returningReply s) = s .number
 
 unfoldable pub replyTo : Table → Call → Reply
-replyTo t (announce r c) = changed (announced t r c .number)
-replyTo t (withdraw a) = changed (withdrawn t a .number)
-replyTo t (elect tag ready) = elected (electOf (t .esi) (t .entries) tag ready)
-replyTo t (returning a alg p d) = sent (returningOf (t .entries) a alg p d)
+replyTo t (announce r c) = changeReply (announced t r c .number)
+replyTo t (withdraw a) = changeReply (withdrawn t a .number)
+replyTo t (elect tag ready) = electReply (electOf (t .esi) (t .entries) tag ready)
+replyTo t (returning a alg p d) = returningReply (returningOf (t .entries) a alg p d)
 
 unfoldable pub leaves : Table → Call → Table
 leaves t (announce r c) = announced t r c .table
@@ -48,4 +49,4 @@ leaves t (returning a alg p d) = t
 
 -- ties the code's answers to the list's calls
 abbrev pub Changes : Table → Call → ℕ → Table → Type 0
-Changes t c n u = (replyTo t c ≡ changed n) × (leaves t c ≡ u)
+Changes t c n u = (replyTo t c ≡ changeReply n) × (leaves t c ≡ u)

@@ -13,9 +13,10 @@ use Rattle.keyed.specs.Keyed.{Rising}
 use Rattle.keyed.specs.Journal.{after, answers, heldAt, lastHeld}
 use Rattle.layout.specs.Table.{Entry, Table, entryKey, WellFormed, ownerOf}
 use Rattle.table.specs.Table.{freshTable}
+use Rattle.layout.specs.Words.{wordsOf}
 use Rattle.election.specs.Election.{electOf}
 use Rattle.returning.specs.Returning.{returningOf}
-use Rattle.segment.specs.Calls.{Call, elect, returning, Reply, changed, elected, sent, numberIn, replyTo, leaves}
+use Rattle.segment.specs.Calls.{Call, elect, returning, Reply, changeReply, electReply, returningReply, numberIn, replyTo, leaves}
 use Rattle.segment.specs.Journal.{Announcement, originatorKey, again, entryFrom, entriesFrom, callEffect, step, journalReply, held, OnePerAddress}
 
 abbrev pub replies : List ℕ → List Call → List Reply
@@ -42,19 +43,20 @@ pub record Demand3 (i : List ℕ) (cs : List Call) : Type 0 where
   pub single : OnePerAddress (held i cs)
   -- an address is held exactly if its last accepted announcement or withdrawal, by the table's own replies, was an announcement: it holds that one
   pub last : (k : ℕ) → heldAt originatorKey k (held i cs) ≡ lastHeld originatorKey callEffect k none cs (map numberIn (replies i cs))
-  -- the table at the end has what every call asks of a table
+  -- the table at the end has what every call keeps of a table
   pub sound : WellFormed (tableAfter i cs)
-  -- what is held, announced alone and in any order to another fresh table for i, is accepted each time, and the state is the same: identifier, entries
-  -- and unused places
-  pub accepted : (order : List Announcement) → List·Permᴰ order (held i cs) → replies i (map again order) ≡ replicate (length order) (changed 0)
+  -- what is held, announced alone and in any order to another fresh table for i, is accepted each time, and the state is the same: identifier and entries,
+  -- and all the words that a caller holds, unused places with their zeros too
+  pub accepted : (order : List Announcement) → List·Permᴰ order (held i cs) → replies i (map again order) ≡ replicate (length order) (changeReply 0)
   pub state : (order : List Announcement) → List·Permᴰ order (held i cs) → tableAfter i (map again order) ≡ tableAfter i cs
+  pub words : (order : List Announcement) → List·Permᴰ order (held i cs) → wordsOf (tableAfter i (map again order)) ≡ wordsOf (tableAfter i cs)
   -- the entries read from what is held can be put in rising address order, and in one way only
   pub rising : Rising entryKey 0 (entriesFrom (held i cs))
   pub all : List·Permᴰ (entriesFrom (held i cs)) (map entryFrom (held i cs))
   pub only : (l : List Entry) → Rising entryKey 0 l → List·Permᴰ l (map entryFrom (held i cs)) → l ≡ entriesFrom (held i cs)
   -- for every tag and every ready list the whole answer of an election, at the end and after what is held was announced alone, is the one for the
   -- journal's identifier and these entries; and so is what a returning router is told
-  pub answer : (tag : ℕ) (ready : List ℕ) → replyTo (tableAfter i cs) (elect tag ready) ≡ elected (electOf (ownerOf i) (entriesFrom (held i cs)) tag ready)
+  pub answer : (tag : ℕ) (ready : List ℕ) → replyTo (tableAfter i cs) (elect tag ready) ≡ electReply (electOf (ownerOf i) (entriesFrom (held i cs)) tag ready)
   pub answerAgain : (order : List Announcement) → List·Permᴰ order (held i cs) → (tag : ℕ) (ready : List ℕ)
-      → replyTo (tableAfter i (map again order)) (elect tag ready) ≡ elected (electOf (ownerOf i) (entriesFrom (held i cs)) tag ready)
-  pub preference : (a alg p : ℕ) (d : Bool) → replyTo (tableAfter i cs) (returning a alg p d) ≡ sent (returningOf (entriesFrom (held i cs)) a alg p d)
+      → replyTo (tableAfter i (map again order)) (elect tag ready) ≡ electReply (electOf (ownerOf i) (entriesFrom (held i cs)) tag ready)
+  pub preference : (a alg p : ℕ) (d : Bool) → replyTo (tableAfter i cs) (returning a alg p d) ≡ returningReply (returningOf (entriesFrom (held i cs)) a alg p d)

@@ -25,7 +25,7 @@ use Rattle.layout.specs.Table.{Entry, entryOf, ownerOf}
 use Rattle.table.specs.Table.{announceNumber, withdrawNumber}
 use Rattle.election.specs.Election.{electOf}
 use Rattle.returning.specs.Returning.{returningOf}
-use Rattle.segment.specs.Calls.{Call, announce, withdraw, elect, returning, Reply, changed, elected, sent}
+use Rattle.segment.specs.Calls.{Call, announce, withdraw, elect, returning, Reply, changeReply, electReply, returningReply}
 
 pub record Announcement : Type 0 where
   pub route : List ℕ
@@ -65,10 +65,10 @@ step i = journalStep originatorKey (callNumber i) callEffect
 
 -- REPLIES
 unfoldable pub journalReply : List ℕ → List Announcement → Call → Reply
-journalReply i js (announce r c) = changed (numberFor i js (announce r c))
-journalReply i js (withdraw a) = changed (numberFor i js (withdraw a))
-journalReply i js (elect tag ready) = elected (electOf i (entriesFrom js) tag ready)
-journalReply i js (returning a alg p d) = sent (returningOf (entriesFrom js) a alg p d)
+journalReply i js (announce r c) = changeReply (numberFor i js (announce r c))
+journalReply i js (withdraw a) = changeReply (numberFor i js (withdraw a))
+journalReply i js (elect tag ready) = electReply (electOf i (entriesFrom js) tag ready)
+journalReply i js (returning a alg p d) = returningReply (returningOf (entriesFrom js) a alg p d)
 
 -- at first nothing is held
 abbrev pub held : List ℕ → List Call → List Announcement

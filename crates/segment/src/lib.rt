@@ -12,7 +12,7 @@ ghost use lib.Count.{ones};
 ghost use Rattle.route.specs.Route.{Fault, routeNumber};
 ghost use Rattle.layout.specs.Words.{tableIn, Valid};
 ghost use Rattle.table.specs.Table.{freshTable, announced, withdrawn, Told};
-ghost use Rattle.election.specs.Election.{electOf, NoneNamed, Chosen};
+ghost use Rattle.election.specs.Election.{electOf, NoneNamed, Forwarder};
 ghost use Rattle.returning.specs.Returning.{returningOf};
 ghost use Rattle.segment.specs.Calls as calls;
 ghost use Rattle.segment.specs.Demand3.{Demand3, Follows, tableAfter};
@@ -39,7 +39,7 @@ pub fn announce(t: &mut [u32], route: &[u8], communities: &[u8]) -> Verdict
     ensures answer { λ r. ⌜ Told (announced (tableIn (now (t .entry))) (now (route .entry)) (now (communities .entry))) (r .number) (r .place) (now (t .exit)) ⌝ }
     ensures kept { λ _. ⌜ Valid (now (t .exit)) ⌝ }
     ensures call { λ r. ⌜ calls.Changes (tableIn (now (t .entry))) (calls.announce (now (route .entry)) (now (communities .entry))) (r .number) (tableIn (now (t .exit))) ⌝ }
-    ensures follows { λ r. ⌜ Follows (tableIn (now (t .entry))) (calls.announce (now (route .entry)) (now (communities .entry))) (calls.changed (r .number)) (tableIn (now (t .exit))) ⌝ }
+    ensures follows { λ r. ⌜ Follows (tableIn (now (t .entry))) (calls.announce (now (route .entry)) (now (communities .entry))) (calls.changeReply (r .number)) (tableIn (now (t .exit))) ⌝ }
     ensures fault { λ r. ⌜ Fault (now (route .entry)) (routeNumber (now (route .entry))) (r .place) ⌝ }
 {
     table::announce(t, route, communities)
@@ -51,21 +51,21 @@ pub fn withdraw(t: &mut [u32], address: Address) -> u8
     ensures answer { λ r. ⌜ Told (withdrawn (tableIn (now (t .entry))) address) r 0 (now (t .exit)) ⌝ }
     ensures kept { λ _. ⌜ Valid (now (t .exit)) ⌝ }
     ensures call { λ r. ⌜ calls.Changes (tableIn (now (t .entry))) (calls.withdraw address) r (tableIn (now (t .exit))) ⌝ }
-    ensures follows { λ r. ⌜ Follows (tableIn (now (t .entry))) (calls.withdraw address) (calls.changed r) (tableIn (now (t .exit))) ⌝ }
+    ensures follows { λ r. ⌜ Follows (tableIn (now (t .entry))) (calls.withdraw address) (calls.changeReply r) (tableIn (now (t .exit))) ⌝ }
 {
     table::withdraw(t, address)
 }
 
-// Elects the Designated Forwarder for a tag: 10 for tag 0 or 4,294,967,295, 11 for a ready list over 64, 12 where no candidate is eligible.
-// Where an address is named, it is that of a candidate, and under algorithms 1 to 3 of the only one than which none is better.
+// Elects the Designated Forwarder for a tag: 10 for tag 0 or 4,294,967,295, 11 for a ready list over 64, 12 where no route is eligible.
+// An address that is named is that of a candidate; under algorithms 1 to 3 no candidate is better, and it is the only such.
 pub fn elect(t: &[u32], tag: u32, ready: &[Address]) -> Answer
     requires { ⌜ Valid (now t) ⌝ }
     ensures answer { λ r. ⌜ r ≡ electOf (tableIn (now (t .entry)) .esi) (tableIn (now (t .entry)) .entries) tag (now (ready .entry)) ⌝ }
     ensures counted { λ r. ⌜ r .n ≡ ones (r .candidates) ⌝ }
     ensures none_named { λ r. ⌜ NoneNamed (tableIn (now (t .entry)) .entries) tag (now (ready .entry)) r ⌝ }
-    ensures chosen { λ r. ⌜ (r .number ≡ 0 → Chosen (tableIn (now (t .entry)) .esi) (tableIn (now (t .entry)) .entries) tag (now (ready .entry)) r) ⌝ }
-    ensures call { λ r. ⌜ calls.replyTo (tableIn (now (t .entry))) (calls.elect tag (now (ready .entry))) ≡ calls.elected r ⌝ }
-    ensures follows { λ r. ⌜ Follows (tableIn (now (t .entry))) (calls.elect tag (now (ready .entry))) (calls.elected r) (tableIn (now (t .entry))) ⌝ }
+    ensures forwarder { λ r. ⌜ (r .number ≡ 0 → Forwarder (tableIn (now (t .entry)) .esi) (tableIn (now (t .entry)) .entries) tag (now (ready .entry)) r) ⌝ }
+    ensures call { λ r. ⌜ calls.replyTo (tableIn (now (t .entry))) (calls.elect tag (now (ready .entry))) ≡ calls.electReply r ⌝ }
+    ensures follows { λ r. ⌜ Follows (tableIn (now (t .entry))) (calls.elect tag (now (ready .entry))) (calls.electReply r) (tableIn (now (t .entry))) ⌝ }
 {
     election::elect(t, tag, ready)
 }
@@ -74,8 +74,8 @@ pub fn elect(t: &[u32], tag: u32, ready: &[Address]) -> Answer
 pub fn returning(t: &[u32], address: Address, algorithm: u8, preference: u16, dp: bool) -> Sent
     requires { ⌜ Valid (now t) ⌝ }
     ensures answer { λ r. ⌜ r ≡ returningOf (tableIn (now (t .entry)) .entries) address algorithm preference dp ⌝ }
-    ensures call { λ r. ⌜ calls.replyTo (tableIn (now (t .entry))) (calls.returning address algorithm preference dp) ≡ calls.sent r ⌝ }
-    ensures follows { λ r. ⌜ Follows (tableIn (now (t .entry))) (calls.returning address algorithm preference dp) (calls.sent r) (tableIn (now (t .entry))) ⌝ }
+    ensures call { λ r. ⌜ calls.replyTo (tableIn (now (t .entry))) (calls.returning address algorithm preference dp) ≡ calls.returningReply r ⌝ }
+    ensures follows { λ r. ⌜ Follows (tableIn (now (t .entry))) (calls.returning address algorithm preference dp) (calls.returningReply r) (tableIn (now (t .entry))) ⌝ }
 {
     returning::returning(t, address, algorithm, preference, dp)
 }

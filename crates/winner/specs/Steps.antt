@@ -1,4 +1,4 @@
--- What the steps of the winner promise to it.
+-- What the steps of the winner promise to it. No public promise cites these.
 --   scoreOf a d e   == the number by which a candidate is preferred under the algorithm a (1 to 3) and the digest d, the greater the better
 use Prim.Native.Nat.{ℕ, _+_, _-_, _*_}
 use mathlib.Core.Bool.{cond}

@@ -9,7 +9,8 @@ ghost use Rattle.choice.specs.Choice.{bestOf};
 ghost use Rattle.winner.specs.Winner.{better, elected, entriesAt};
 ghost use Rattle.winner.specs.Steps.{scoreOf};
 
-// The greatest preference, twice: what a preference and its DP bit are counted down from under algorithm 3.
+// Twice the greatest preference: under algorithm 3 preferences are counted down from the greatest. A standing is twice the preference and the DP bit, so what is
+// taken from here is the standing less its DP bit, and the bit stays added: once to make up for it, once for itself.
 const TWICE_GREATEST: u32 = 131070;
 
 // The number by which a candidate is preferred under algorithm 1, 2 or 3, the greater the better: its weight, or its preference (under 3 counted from
