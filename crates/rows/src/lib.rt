@@ -90,13 +90,12 @@ pub fn search(s: &[u32], n: usize, first: usize, key: &[u32]) -> Lookup
             }
             Order::Less => {
                 lo = look + 1;
-                look = halfway(lo, hi);
             }
             Order::Greater => {
                 hi = look;
-                look = halfway(lo, hi);
             }
         }
+        look = halfway(lo, hi);
     }
     Lookup {
         found: Found::Missing(lo),

@@ -2,13 +2,14 @@
 -- looks so far with those that the range takes are those of the definition. Assumes nothing.
 use Prim.Native.Nat.{_≤_, _<_, _-_}
 use native.Mathlib.Omega.{arith}
-use mathlib.Core.Path.{_≡_, ap, sym, _∙_}
+use mathlib.Core.Path.{_≡_, ap, ap₂, sym, _∙_}
+use mathlib.Core.Logic.{⊎-elim}
 use mathlib.Core.List.{[], map}
 use borrow.Author.Needs.{needs}
 use lib.ListN.{length, getD}
 use Rattle.keyed.specs.Keyed.{rank}
 use Rattle.keyed.proofs.Keyed.{rank-le}
-use Rattle.rows.specs.Rows.{rowsIn, rowKey}
+use Rattle.rows.specs.Rows.{rowsIn, rowKey, middle}
 use Rattle.rows.proofs.Compared.{is-less, is-more, is-same}
 use Rattle.rows.proofs.Looks.{few-looks, Counted, count-start, count-right, count-left, count-here, count-end}
 use Rattle.rows.proofs.Rows.{row-fits, rows-length, rows-at, key-at, keys-length}
@@ -81,43 +82,45 @@ returns c =
       count-here (rowKey (a .key .now)) (map rowKey l) (a .n) (a .first) (turn .loop .looks) (turn .loop .lo) at (turn .loop .hi) (called .before .loop-test .taken) (v .4) (key-at k (a .n) (a .s .now) at (omega (arith, w)) ∙ told),
     )
 
+-- the range that is left lies in the one before
+narrower : (c : tie.At-match-came Inv-loop μ-loop) →
+    let turn = c .before .before .before in
+    (c .match .lo ≤ c .match .hi) × (c .match .hi - c .match .lo < turn .loop .hi - turn .loop .lo)
+narrower c =
+    let called = c .before in
+    let turn = called .before .before in
+    let w = turn .loop .inv .4 .2 (called .before .loop-test .taken) in
+    ⊎-elim (λ u. (omega (arith, w, u .2, u .3), omega (arith, w, u .2, u .3))) (λ u. (omega (arith, w, u .2, u .3), omega (arith, w, u .2, u .3))) (c .match .came)
+
 loop-again : tie.Need-loop-again Inv-loop μ-loop
 loop-again c =
-    let told = c .before in
-    let called = told .before .before in
+    let came = c .before in
+    let called = came .before in
     let turn = called .before .before in
     let start = turn .before .before .before .before in
     let a = start .args in
     let k = length (a .key .now) in
+    let m = rowKey (a .key .now) in
     let l = rowsIn k (a .n) (a .s .now) in
     let v = turn .loop .inv in
     let at = turn .loop .look in
-    let w = v .4 .2 (called .before .loop-test .taken) in
+    let t = called .before .loop-test .taken in
+    let w = v .4 .2 t in
     let h : at < length l = omega (arith, w, rows-length k (a .n) (a .s .now)) in
-    let less = is-less _ _ (sym (called .compare .ensures) ∙ told .enum-told2 .given .1) in
-    let row : rowKey (getD l at []) < rowKey (a .key .now) = rw (rows-at k (a .n) (a .s .now) at (omega (arith, w))) less in
-    let here : getD (map rowKey l) at 0 < rowKey (a .key .now) = rw (key-at k (a .n) (a .s .now) at (omega (arith, w))) less in
-    let r = look-less rowKey (rowKey (a .key .now)) l 0 [] (start .pre .1) at h row in
-    (omega arith, v .1, v .2, v .3, count-right (rowKey (a .key .now)) (map rowKey l) (a .n) (a .first) (turn .loop .looks) (turn .loop .lo) at (turn .loop .hi) (called .before .loop-test .taken) (v .4) _ (c .halfway .ensures) here)
-
-loop-again-2 : tie.Need-loop-again-2 Inv-loop μ-loop
-loop-again-2 c =
-    let told = c .before in
-    let called = told .before .before in
-    let turn = called .before .before in
-    let start = turn .before .before .before .before in
-    let a = start .args in
-    let k = length (a .key .now) in
-    let l = rowsIn k (a .n) (a .s .now) in
-    let v = turn .loop .inv in
-    let at = turn .loop .look in
-    let w = v .4 .2 (called .before .loop-test .taken) in
-    let h : at < length l = omega (arith, w, rows-length k (a .n) (a .s .now)) in
-    let more = is-more _ _ (sym (called .compare .ensures) ∙ told .enum-told3 .given .1) in
-    let row : rowKey (a .key .now) < rowKey (getD l at []) = rw (rows-at k (a .n) (a .s .now) at (omega (arith, w))) more in
-    let here : rowKey (a .key .now) < getD (map rowKey l) at 0 = rw (key-at k (a .n) (a .s .now) at (omega (arith, w))) more in
-    let r = look-more rowKey (rowKey (a .key .now)) l 0 [] (start .pre .1) at h row in
-    (v .0, r, omega (arith, w), λ _. row, count-left (rowKey (a .key .now)) (map rowKey l) (a .n) (a .first) (turn .loop .looks) (turn .loop .lo) at (turn .loop .hi) (called .before .loop-test .taken) (v .4) _ (c .halfway2 .ensures) here)
+    let row = rows-at k (a .n) (a .s .now) at (omega (arith, w)) in
+    let key = key-at k (a .n) (a .s .now) at (omega (arith, w)) in
+    let half = c .halfway .ensures in
+    ⊎-elim
+    (λ u.
+    let less = is-less _ _ (sym (called .compare .ensures) ∙ u .1 .given .1) in
+    let r = look-less rowKey m l 0 [] (start .pre .1) at h (rw row less) in
+    rw (u .2, u .3) (omega arith, v .1, v .2, v .3, count-right m (map rowKey l) (a .n) (a .first) (turn .loop .looks) (turn .loop .lo) at (turn .loop .hi) t (v .4) _ (half ∙ ap₂ middle (u .2) (u .3)) (rw key less)))
+    (λ u.
+    let more = is-more _ _ (sym (called .compare .ensures) ∙ u .1 .given .1) in
+    let up : m < rowKey (getD l at []) = rw row more in
+    let r = look-more rowKey m l 0 [] (start .pre .1) at h up in
+    rw (u .2, u .3) (v .0, r, omega (arith, w), λ _. up, count-left m (map rowKey l) (a .n) (a .first) (turn .loop .looks) (turn .loop .lo) at (turn .loop .hi) t (v .4) _ (half ∙ ap₂ middle (u .2) (u .3)) (rw key more)))
+    (came .match .came)
 
 returns-2 : tie.Need-returns-2 Inv-loop μ-loop
 returns-2 c =
@@ -147,11 +150,8 @@ search-spec =
     returns
     (λ c. search needs)
     (λ c. omega (arith, c .before .before .before .before .loop .inv .4 .2 (omega arith)))
-    (λ c κs. omega (arith, c .before .before .before .before .loop .inv .4 .2 (omega arith)))
-    (λ c. omega (arith, c .before .before .before .before .before .loop .inv .4 .2 (omega arith)))
-    loop-again
     (λ c. search needs)
-    (λ c κs. omega (arith, c .before .before .before .before .loop .inv .4 .2 (omega arith)))
-    (λ c. omega (arith, c .before .before .before .before .before .loop .inv .4 .2 (omega arith)))
-    loop-again-2
+    (λ c κs. narrower c .0)
+    (λ c. narrower (c .before) .1)
+    loop-again
     returns-2)
