@@ -1,0 +1,78 @@
+-- The refusal numbers (document 01, "Refusal numbers", and the requests of document 02). 0 is no refusal.
+use Prim.Native.Nat.{ℕ}
+
+-- a route's length
+abbrev pub routeLength : ℕ
+routeLength = 1
+
+-- not route type 4
+abbrev pub routeType : ℕ
+routeType = 2
+
+-- an address length that is not 32
+abbrev pub addressLength : ℕ
+addressLength = 3
+
+-- an identifier that is reserved, or not ten octets
+abbrev pub esiReserved : ℕ
+esiReserved = 4
+
+-- a route of another segment
+abbrev pub otherSegment : ℕ
+otherSegment = 5
+
+-- address zero
+abbrev pub addressZero : ℕ
+addressZero = 6
+
+-- the length of a list of communities
+abbrev pub listLength : ℕ
+listLength = 7
+
+-- a table that is full
+abbrev pub tableFull : ℕ
+tableFull = 8
+
+-- an address that is not present
+abbrev pub notPresent : ℕ
+notPresent = 9
+
+-- a reserved tag
+abbrev pub tagReserved : ℕ
+tagReserved = 10
+
+-- a ready list that is too long
+abbrev pub readyTooLong : ℕ
+readyTooLong = 11
+
+-- no eligible router
+abbrev pub noneEligible : ℕ
+noneEligible = 12
+
+-- a text that is no identifier (a plate, in document 01)
+abbrev pub esiText : ℕ
+esiText = 13
+
+-- a buffer that is too short
+abbrev pub bufferShort : ℕ
+bufferShort = 14
+
+-- an algorithm that is not usable here
+abbrev pub algorithmNotUsable : ℕ
+algorithmNotUsable = 15
+
+-- a bad record
+abbrev pub badRecord : ℕ
+badRecord = 16
+
+-- a wait that is not 1 to 600 seconds (document 02, M-100)
+abbrev pub waitOutOfRange : ℕ
+waitOutOfRange = 17
+
+-- a step outside -65,535 to 65,535 (document 02, M-108)
+abbrev pub stepOutOfRange : ℕ
+stepOutOfRange = 19
+
+-- a number that names no event (ours: document 02 gives none)
+abbrev pub eventUnknown : ℕ
+eventUnknown = 23
