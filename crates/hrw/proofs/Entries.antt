@@ -39,48 +39,22 @@ high =
     ∷ 0xEDB8_8320 ∷ 0xF00F_9344 ∷ 0xD6D6_A3E8 ∷ 0xCB61_B38C ∷ 0x9B64_C2B0 ∷ 0x86D3_D2D4 ∷ 0xA00A_E278 ∷ 0xBDBD_F21C
     ∷ []
 
-high-right : high ≡ entries (λ k. crcBits 8 (k * 16)) 0 16
-unfolding crcBit crcBits
-high-right = refl
-
-pub high-entry : (k j : ℕ) → k ≡ j → j < 16 → getD high j 0 ≡ crcBits 8 (k * 16)
-high-entry = entry (λ k. crcBits 8 (k * 16)) high high-right
-
 abbrev low : List ℕ
 low =
     0x0000_0000 ∷ 0x7707_3096 ∷ 0xEE0E_612C ∷ 0x9909_51BA ∷ 0x076D_C419 ∷ 0x706A_F48F ∷ 0xE963_A535 ∷ 0x9E64_95A3
     ∷ 0x0EDB_8832 ∷ 0x79DC_B8A4 ∷ 0xE0D5_E91E ∷ 0x97D2_D988 ∷ 0x09B6_4C2B ∷ 0x7EB1_7CBD ∷ 0xE7B8_2D07 ∷ 0x90BF_1D91
     ∷ []
 
-low-right : low ≡ entries (λ k. crcBits 8 k) 0 16
+high-right : high ≡ entries (λ k. crcBits 8 (k * 16)) 0 16
+unfolding crcBit crcBits
+high-right = refl
+
+low-right : low ≡ entries (crcBits 8) 0 16
 unfolding crcBit crcBits
 low-right = refl
 
+pub high-entry : (k j : ℕ) → k ≡ j → j < 16 → getD high j 0 ≡ crcBits 8 (k * 16)
+high-entry = entry (λ k. crcBits 8 (k * 16)) high high-right
+
 pub low-entry : (k j : ℕ) → k ≡ j → j < 16 → getD low j 0 ≡ crcBits 8 k
-low-entry = entry (λ k. crcBits 8 k) low low-right
-
-abbrev high-then : List ℕ
-high-then =
-    0x0000_0000 ∷ 0x4AC2_1251 ∷ 0x9584_24A2 ∷ 0xDF46_36F3 ∷ 0xF079_4F05 ∷ 0xBABB_5D54 ∷ 0x65FD_6BA7 ∷ 0x2F3F_79F6
-    ∷ 0x3B83_984B ∷ 0x7141_8A1A ∷ 0xAE07_BCE9 ∷ 0xE4C5_AEB8 ∷ 0xCBFA_D74E ∷ 0x8138_C51F ∷ 0x5E7E_F3EC ∷ 0x14BC_E1BD
-    ∷ []
-
-high-then-right : high-then ≡ entries (λ k. crcBits 16 (k * 16)) 0 16
-unfolding crcBit crcBits
-high-then-right = refl
-
-pub high-then-entry : (k j : ℕ) → k ≡ j → j < 16 → getD high-then j 0 ≡ crcBits 16 (k * 16)
-high-then-entry = entry (λ k. crcBits 16 (k * 16)) high-then high-then-right
-
-abbrev low-then : List ℕ
-low-then =
-    0x0000_0000 ∷ 0x191B_3141 ∷ 0x3236_6282 ∷ 0x2B2D_53C3 ∷ 0x646C_C504 ∷ 0x7D77_F445 ∷ 0x565A_A786 ∷ 0x4F41_96C7
-    ∷ 0xC8D9_8A08 ∷ 0xD1C2_BB49 ∷ 0xFAEF_E88A ∷ 0xE3F4_D9CB ∷ 0xACB5_4F0C ∷ 0xB5AE_7E4D ∷ 0x9E83_2D8E ∷ 0x8798_1CCF
-    ∷ []
-
-low-then-right : low-then ≡ entries (λ k. crcBits 16 k) 0 16
-unfolding crcBit crcBits
-low-then-right = refl
-
-pub low-then-entry : (k j : ℕ) → k ≡ j → j < 16 → getD low-then j 0 ≡ crcBits 16 k
-low-then-entry = entry (λ k. crcBits 16 k) low-then low-then-right
+low-entry = entry (crcBits 8) low low-right

@@ -1,21 +1,21 @@
 -- Laws of `specs/Crc.antt` and `specs/Weight.antt`: the CRC an octet at a time and over pieces, bounds, and the low 31 bits that decide a weight.
 -- Assumes nothing.
 use Prim.Native.Nat.{ℕ, zero, suc, _+_, _*_, _/_, _%_, _^_, _≤_, _<_}
-use native.Mathlib.Nat.{mul-one, mul-add, mul-assoc, add-assoc, zero-add, suc-add, div-add-mod', mod-lt, mul-add-mod-self-right}
+use native.Mathlib.Nat.{mul-one, mul-add, mul-assoc, add-assoc, div-add-mod', mod-lt, mul-add-mod-self-right}
 use native.Mathlib.Numerals.{add-one}
 use native.Mathlib.Omega.{arith}
-use mathlib.Core.Path.{_≡_, refl, ap, ap₂, _∙_, sym}
+use mathlib.Core.Path.{_≡_, refl, ap, _∙_, sym}
 use mathlib.Core.Bool.{cond}
 use mathlib.Core.List.{List, [], _∷_, _++_}
 use lib.ListN.{length, getD, drop, drop-of-length-le}
 use lib.Seq.{drop-cons}
 use lib.Pow.{pow-pos, split}
 use lib.Dec.{eqb}
-use lib.Bits.{bitXor, differ, xor-mod, xor-comm, xor-shifted, shifted-half, shifted-even}
+use lib.Bits.{bitXor, differ, xor-mod, xor-shifted, shifted-half, shifted-even}
 use Rattle.octets.specs.Octets.{octetsOf}
 use Rattle.hrw.specs.Crc.{polynomial, allOnes, crcBit, crcBits, crcOctet, crcOver, crc32Of}
 use Rattle.hrw.specs.Weight.{digestOver, digestOf, weightOf}
-use Rattle.hrw.proofs.Xor.{bit, xor-assoc, xor-half, xor-odd, xor-xor}
+use Rattle.hrw.proofs.Xor.{bit, xor-half, xor-odd, xor-xor}
 
 -- ---- an octet at a time
 
@@ -57,43 +57,9 @@ unfolding crcOctet
 crcOctet-parts c x =
     crcBits-parts 8 8 (bitXor c x) ∙ ap (λ (n : ℕ). bitXor n (crcBits 8 (bitXor c x % 256))) (crcBits-shift 8 (bitXor c x / 256))
 
-pub crcBits-halves : (n x : ℕ) → crcBits n x ≡ bitXor (crcBits n (x / 16 * 16)) (crcBits n (x % 16))
-crcBits-halves n x = crcBits-parts n 4 x
-
 pub crcOctet-halves : (x : ℕ) → crcOctet 0 x ≡ bitXor (crcBits 8 (x / 16 * 16)) (crcBits 8 (x % 16))
 unfolding crcOctet
-crcOctet-halves x = crcBits-halves 8 x
-
--- ---- two octets at a time
-
-crcBits-add : (m n c : ℕ) → crcBits (m + n) c ≡ crcBits n (crcBits m c)
-unfolding crcBits
-crcBits-add zero n c = rw (zero-add n)
-crcBits-add (suc m) n c = rw (suc-add m n) (crcBits-add m n (crcBit c))
-
--- an octet that another comes after
-crcBits-then : (c y : ℕ) → crcBits 16 (bitXor c (y * 2 ^ 8)) ≡ crcBits 8 (bitXor (crcBits 8 c) y)
-crcBits-then c y =
-    crcBits-add 8 8 (bitXor c (y * 2 ^ 8))
-    ∙ ap (crcBits 8) (crcBits-xor 8 c (y * 2 ^ 8) ∙ ap (bitXor (crcBits 8 c)) (crcBits-shift 8 y))
-
-pub crcOctet-pair : (c x y : ℕ) → x < 256 → crcOctet (crcOctet c x) y
-    ≡ bitXor (bitXor c (x + y * 256) / 65536) (bitXor (crcOctet 0 (bitXor c (x + y * 256) / 256 % 256)) (crcBits 16 (bitXor c (x + y * 256) % 256)))
-unfolding crcOctet
-crcOctet-pair c x y h =
-    let z = bitXor c (x + y * 256) in
-    let e : bitXor (bitXor c x) (y * 2 ^ 8) ≡ z =
-    xor-assoc c x (y * 2 ^ 8) ∙ ap (bitXor c) (xor-comm x (y * 2 ^ 8) ∙ xor-shifted y 8 x h ∙ omega arith) in
-    let m : z % 65536 / 256 ≡ z / 256 % 256 = omega arith in
-    let l : z % 65536 % 256 ≡ z % 256 = omega arith in
-    sym (crcBits-then (bitXor c x) y)
-    ∙ ap (crcBits 16) e
-    ∙ crcBits-parts 16 16 z
-    ∙ ap₂ bitXor (crcBits-shift 16 (z / 65536))
-    (crcBits-parts 16 8 (z % 65536) ∙ ap₂ bitXor (high (z % 65536 / 256) ∙ ap (crcBits 8) m) (ap (crcBits 16) l))
-  where
-    high : (v : ℕ) → crcBits 16 (v * 2 ^ 8) ≡ crcBits 8 v
-    high v = crcBits-add 8 8 (v * 2 ^ 8) ∙ ap (crcBits 8) (crcBits-shift 8 v)
+crcOctet-halves x = crcBits-parts 8 4 x
 
 -- ---- over pieces
 
@@ -105,14 +71,6 @@ crcOver-append c (x ∷ a) b = crcOver-append (crcOctet c x) a b
 pub crcOver-next : (c : ℕ) (s : List ℕ) (i : ℕ) → i < length s → crcOver c (drop i s) ≡ crcOver (crcOctet c (getD s i 0)) (drop (i + 1) s)
 unfolding crcOver
 crcOver-next c s i h = rw (drop-cons s i 0 h, add-one)
-
-pub crcOver-two : (c : ℕ) (s : List ℕ) (i : ℕ) → i + 1 < length s
-    → crcOver c (drop i s) ≡ crcOver (crcOctet (crcOctet c (getD s i 0)) (getD s (i + 1) 0)) (drop (i + 2) s)
-crcOver-two c s i h =
-    let n : i + 1 + 1 ≡ i + 2 = omega arith in
-    crcOver-next c s i (omega arith)
-    ∙ crcOver-next (crcOctet c (getD s i 0)) s (i + 1) h
-    ∙ ap (λ (j : ℕ). crcOver (crcOctet (crcOctet c (getD s i 0)) (getD s (i + 1) 0)) (drop j s)) n
 
 pub crcOver-end : (c : ℕ) (s : List ℕ) (i : ℕ) → length s ≤ i → crcOver c (drop i s) ≡ c
 unfolding crcOver

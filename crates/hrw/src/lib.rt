@@ -1,6 +1,6 @@
 // Highest random weight (HRW): CRC-32, the digest of an Ethernet Tag on a segment, and the weight of an address.
 ghost use mathlib.Core.Path.{_≡_};
-ghost use Rattle.hrw.specs.Crc.{crcBits, crcOctet, crcOver, crc32Of};
+ghost use Rattle.hrw.specs.Crc.{crcOctet, crcOver, crc32Of};
 ghost use Rattle.hrw.specs.Weight.{digestOf, weightOf};
 
 mod table;
@@ -25,13 +25,6 @@ fn after_octet(x: u8) -> u32
     table::of_high_half(x / 16) ^ table::of_low_half(x % 16)
 }
 
-// The CRC register after the octet x and then an octet 0, from the register 0.
-fn after_octet_then_zero(x: u8) -> u32
-    ensures { λ r. ⌜ r ≡ crcBits 16 x ⌝ }
-{
-    table::of_high_half_then_zero(x / 16) ^ table::of_low_half_then_zero(x % 16)
-}
-
 // The CRC register after one octet more.
 fn crc_octet(state: u32, x: u8) -> u32
     ensures { λ r. ⌜ r ≡ crcOctet state x ⌝ }
@@ -40,29 +33,15 @@ fn crc_octet(state: u32, x: u8) -> u32
     (mixed / 256) ^ after_octet((mixed % 256) as u8)
 }
 
-// The CRC register after two octets more, x and then y.
-fn crc_pair(state: u32, x: u8, y: u8) -> u32
-    ensures { λ r. ⌜ r ≡ crcOctet (crcOctet state x) y ⌝ }
-{
-    let pair = (x as u32) + (y as u32) * 256;
-    let mixed = state ^ pair;
-    let first = (mixed % 256) as u8;
-    let second = (mixed / 256 % 256) as u8;
-    (mixed / 65536) ^ (after_octet(second) ^ after_octet_then_zero(first))
-}
-
-// The CRC register after the octets of s, from the register handed in: a CRC of several pieces goes on from one to the next. Octets are taken two at a time.
+// The CRC register after the octets of s, from the register handed in: a CRC of several pieces goes on from one to the next.
 pub fn crc_over(state: u32, s: &[u8]) -> u32
     ensures { λ r. ⌜ r ≡ crcOver state (now (s .entry)) ⌝ }
 {
     let mut r = state;
     let mut i = 0;
-    while 1 < s.len() - i {
-        r = crc_pair(r, s[i], s[i + 1]);
-        i += 2;
-    }
-    if i < s.len() {
-        return crc_octet(r, s[i]);
+    while i < s.len() {
+        r = crc_octet(r, s[i]);
+        i += 1;
     }
     r
 }

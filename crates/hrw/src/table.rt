@@ -1,5 +1,5 @@
-// What each half of an octet makes of an empty CRC register, where it is the last octet and where another comes after it. A `match` on a number becomes one
-// load from a table that is not laid out again at each call, as a constant array would be.
+// What each half of an octet makes of an empty CRC register. A `match` on a number becomes one load from a table that is not laid out again at each call,
+// as a constant array would be.
 ghost use mathlib.Core.Path.{_≡_};
 ghost use Prim.Native.Nat.{_*_, _<_};
 ghost use Rattle.hrw.specs.Crc.{crcBits};
@@ -32,7 +32,7 @@ pub fn of_high_half(k: u8) -> u32
 // The CRC register after the octet k, from the register 0.
 pub fn of_low_half(k: u8) -> u32
     requires { ⌜ k < 16 ⌝ }
-    ensures { λ r. ⌜ r ≡ crcBits 8 k ⌝ }
+    ensures { λ r. ⌜ r ≡ crcBits 8 (k) ⌝ }
 {
     match k {
         0 => 0x0000_0000,
@@ -51,55 +51,5 @@ pub fn of_low_half(k: u8) -> u32
         13 => 0x7EB1_7CBD,
         14 => 0xE7B8_2D07,
         _ => 0x90BF_1D91,
-    }
-}
-
-// The CRC register after the octets 16 * k and 0, from the register 0.
-pub fn of_high_half_then_zero(k: u8) -> u32
-    requires { ⌜ k < 16 ⌝ }
-    ensures { λ r. ⌜ r ≡ crcBits 16 (k * 16) ⌝ }
-{
-    match k {
-        0 => 0x0000_0000,
-        1 => 0x4AC2_1251,
-        2 => 0x9584_24A2,
-        3 => 0xDF46_36F3,
-        4 => 0xF079_4F05,
-        5 => 0xBABB_5D54,
-        6 => 0x65FD_6BA7,
-        7 => 0x2F3F_79F6,
-        8 => 0x3B83_984B,
-        9 => 0x7141_8A1A,
-        10 => 0xAE07_BCE9,
-        11 => 0xE4C5_AEB8,
-        12 => 0xCBFA_D74E,
-        13 => 0x8138_C51F,
-        14 => 0x5E7E_F3EC,
-        _ => 0x14BC_E1BD,
-    }
-}
-
-// The CRC register after the octets k and 0, from the register 0.
-pub fn of_low_half_then_zero(k: u8) -> u32
-    requires { ⌜ k < 16 ⌝ }
-    ensures { λ r. ⌜ r ≡ crcBits 16 k ⌝ }
-{
-    match k {
-        0 => 0x0000_0000,
-        1 => 0x191B_3141,
-        2 => 0x3236_6282,
-        3 => 0x2B2D_53C3,
-        4 => 0x646C_C504,
-        5 => 0x7D77_F445,
-        6 => 0x565A_A786,
-        7 => 0x4F41_96C7,
-        8 => 0xC8D9_8A08,
-        9 => 0xD1C2_BB49,
-        10 => 0xFAEF_E88A,
-        11 => 0xE3F4_D9CB,
-        12 => 0xACB5_4F0C,
-        13 => 0xB5AE_7E4D,
-        14 => 0x9E83_2D8E,
-        _ => 0x8798_1CCF,
     }
 }

@@ -6,7 +6,7 @@ use mathlib.Core.Path.{_≡_, refl, _∙_, sym, ap}
 use borrow.Author.Needs.{needs}
 use lib.ListN.{length, drop}
 use Rattle.hrw.specs.Crc.{crcOver}
-use Rattle.hrw.proofs.Laws.{crcOver-next, crcOver-two, crcOver-end}
+use Rattle.hrw.proofs.Laws.{crcOver-next, crcOver-end}
 use Rattle.hrw.proofs.crc_over.Statement.{statement}
 use Rattle.hrw.proofs.crc_over.Tie as tie
 
@@ -21,21 +21,14 @@ loop-holds c = (omega arith, refl)
 
 loop-again : tie.Need-loop-again Inv-loop μ-loop
 loop-again c =
-    let turn = c .before .before .before .before in
+    let turn = c .before .before .before in
     let s = turn .before .before .args .s .now in
     let l = turn .loop in
-    (omega arith, ap (λ (r : ℕ). crcOver r (drop (l .i + 2) s)) (c .crc-pair .ensures) ∙ sym (crcOver-two (l .r) s (l .i) (omega arith)) ∙ l .inv .1)
+    (omega arith, ap (λ (r : ℕ). crcOver r (drop (l .i + 1) s)) (c .crc-octet .ensures) ∙ sym (crcOver-next (l .r) s (l .i) (omega arith)) ∙ l .inv .1)
 
 returns : tie.Need-returns Inv-loop μ-loop
 returns c =
-    let turn = c .before .before .before .before in
-    let s = turn .before .before .args .s .now in
-    let l = turn .loop in
-    c .crc-octet .ensures ∙ sym (crcOver-next (l .r) s (l .i) (omega arith) ∙ crcOver-end _ s (l .i + 1) (omega arith)) ∙ l .inv .1
-
-returns-2 : tie.Need-returns-2 Inv-loop μ-loop
-returns-2 c =
-    let turn = c .before .before in
+    let turn = c .before in
     sym (crcOver-end (turn .loop .r) (turn .before .before .args .s .now) (turn .loop .i) (omega arith)) ∙ turn .loop .inv .1
 
 pub crc-over-spec : {M : Type 1} → statement M
@@ -46,14 +39,8 @@ crc-over-spec =
     μ-loop
     loop-holds
     (λ c. omega arith)
-    (λ c. omega arith)
-    (λ c. omega arith)
-    (λ c. omega arith)
     (λ c κs. search needs)
     (λ c. omega arith)
     (λ c. omega arith)
     loop-again
-    (λ c. omega arith)
-    (λ c κs. search needs)
-    returns
-    returns-2)
+    returns)
