@@ -10,6 +10,7 @@ use lib.ListN.{length, getD, take, drop, length-drop}
 use lib.Seq.{length-take-le, getD-take, getD-drop, drop-drop, take-all, take-at}
 use lib.Dec.{eqb}
 use borrow.Author.Tests.{eq-eqb, ne-eqb, le-leb, lt-leb, le-ltb, lt-ltb}
+use Rattle.lists.proofs.Checks.{refused-at, refused-none}
 use Rattle.octets.specs.Octets.{numberOf, octetsOf, stored}
 use Rattle.octets.proofs.Laws.{length-octets, number-octets-small, stored-front, take-elements}
 use Rattle.community.specs.Community.{weighsPreference, electionUnder, noElection, readCommunity, communityOctets, isElection, communities, elections, chosen, listFits, electionIn, readList, writeNumber, communityWritten}
@@ -186,24 +187,18 @@ module _ (d : List ℕ) (a : ℕ) (ac dp : Bool) (p : ℕ) where
   unfolding communityWritten
   refused n e = (e, (rw (← e, ne-eqb (suc n) 0 (λ z. omega arith)), λ z. absurd (omega arith)))
 
-  number-high : 31 < a → 15 ≡ writeNumber a (length d)
-  unfolding writeNumber
-  number-high h = rw (lt-ltb _ _ h)
-
-  number-short : a ≤ 31 → length d < 8 → 14 ≡ writeNumber a (length d)
-  unfolding writeNumber
-  number-short h k = rw (le-ltb _ _ h, lt-ltb _ _ k)
-
   pub wrote-high : 31 < a → Wrote 15 d
-  wrote-high h = refused 14 (number-high h)
+  unfolding writeNumber
+  wrote-high h = refused 14 (refused-at 0 _ tt (lt-ltb _ _ h))
 
   pub wrote-short : a ≤ 31 → length d < 8 → Wrote 14 d
-  wrote-short h k = refused 13 (number-short h k)
+  unfolding writeNumber
+  wrote-short h k = refused 13 (refused-at 1 _ (le-ltb _ _ h, tt) (lt-ltb _ _ k))
 
   module _ (h : a ≤ 31) (k : 8 ≤ length d) (b : p < 65536) where
     number-right : 0 ≡ writeNumber a (length d)
     unfolding writeNumber
-    number-right = rw (le-ltb _ _ h, le-ltb _ _ k)
+    number-right = refused-none _ (le-ltb _ _ h, (le-ltb _ _ k, tt))
 
     abbrev e : Election
     e = electionUnder a ac dp p

@@ -27,6 +27,7 @@ use mathlib.Core.Bool.{Bool, true, false, cond, not, _&&_}
 use mathlib.Core.List.{List, [], _∷_, _++_, map}
 use lib.ListN.{length, getD, take, drop, replicate}
 use lib.Dec.{leb, ltb, eqb}
+use Rattle.lists.specs.Checks.{firstRefusal}
 use Rattle.esi.specs.declared.TextRead.{TextRead}
 use Rattle.esi.specs.Reserved.{reserved}
 
@@ -92,7 +93,12 @@ unfoldable pub lowerCase : List ℕ → List ℕ
 lowerCase t = map lower t
 
 unfoldable pub writeTextNumber : ℕ → List ℕ → ℕ
-writeTextNumber n s = cond (reserved s) 4 (cond (ltb n 29) 14 0)
+writeTextNumber n s =
+    firstRefusal (
+    (reserved s, 4)
+    ∷ (ltb n 29, 14)
+    ∷ []
+    )
 
 unfoldable pub textWritten : List ℕ → List ℕ → List ℕ
 textWritten d s = cond (eqb (writeTextNumber (length d) s) 0) (textOf s ++ drop 29 d) d
