@@ -3,12 +3,13 @@
 use Prim.Native.Nat.{ℕ, _<_, _≤_}
 use native.Mathlib.Omega.{arith}
 use mathlib.Core.Path.{_≡_, refl, sym, ap, _∙_}
-use mathlib.Core.Bool.{Bool, true, false, cond, not, _||_, true≢false, and-eq-true-iff, and-false}
+use mathlib.Core.Bool.{Bool, true, false, cond, not, _||_, and-eq-true-iff, and-false}
 use mathlib.Core.List.{List, _++_}
 use lib.ListN.{length, take, drop, replicate}
 use lib.Seq.{take-all, take-at}
 use lib.Dec.{eqb}
-use borrow.Author.Tests.{eq-eqb, ne-eqb, eqb-true, lt-ltb, le-ltb}
+use borrow.Author.Tests.{not-false, eq-eqb, ne-eqb, eqb-true, lt-ltb, le-ltb}
+use Rattle.lists.proofs.Bools.{or-left}
 use Rattle.lists.proofs.Checks.{refused-at, refused-none}
 use Rattle.octets.specs.Octets.{allAre}
 use Rattle.octets.proofs.Laws.{Octets, octets-replicate}
@@ -36,11 +37,7 @@ module _ (s : List ℕ) where
 
   pub length-not-reserved : reserved s ≡ false → length s ≡ 10
   unfolding reserved
-  length-not-reserved h = eqb-true (length s) 10 (or-left (eqb (length s) 10) (allAre 0 s || allAre 255 s) h)
-    where
-      or-left : (a b : Bool) → (not a || b) ≡ false → a ≡ true
-      or-left true b e = refl
-      or-left false b e = absurd (true≢false e)
+  length-not-reserved h = eqb-true (length s) 10 (not-false _ (or-left _ (allAre 0 s || allAre 255 s) h))
 
 -- ---- the three answers of reading
 

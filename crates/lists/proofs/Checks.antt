@@ -59,9 +59,9 @@ telling-own n = rw (or-not-self (not (eqb n 0)))
 module _ (P : ℕ → Type 0) where
   abbrev pub Each : List Check → Type 0
   Each [] = P 0
-  Each (c ∷ cs) = (c .0 ≡ true → P (c .1)) × (c .0 ≡ false → Each cs)
+  Each (c ∷ cs) = (c .0 ≡ true → P (c .1)) × Each cs
 
   pub each : (cs : List Check) → Each cs → P (firstRefusal cs)
   unfolding firstRefusal
   each [] f = f
-  each (c ∷ cs) f = cond-by P (c .0) (f .0) (λ h. each cs (f .1 h))
+  each (c ∷ cs) f = cond-by P (c .0) (f .0) (λ h. each cs (f .1))

@@ -1,14 +1,14 @@
 -- Laws of `specs/Route.antt`: which check gives the number, what an accepted route has, and that a written route reads back. Assumes nothing.
 use Prim.Native.Nat.{ℕ, suc, _+_, _≤_, _<_, _^_}
 use native.Mathlib.Omega.{arith}
-use mathlib.Core.Path.{_≡_, refl, ap, ap₂, sym, _∙_, subst}
+use mathlib.Core.Path.{_≡_, refl, ap, ap₂, sym, _∙_}
 use mathlib.Core.Bool.{Bool, true, false, cond, not, _||_}
 use mathlib.Core.List.{List, [], _∷_, _++_, append-assoc}
 use lib.ListN.{length, getD, take, drop, replicate, length-append, length-drop}
 use lib.Seq.{take-at, take-all, drop-at, drop-drop, getD-drop, length-take-le}
-use lib.Dec.{ltb, eqb}
-use borrow.Author.Tests.{not-true, not-false, eq-eqb, ne-eqb, eqb-true, eqb-false, le-ltb, lt-ltb, ltb-true, ltb-false}
-use Rattle.lists.proofs.Bools.{eq-not, ne-not, or-left}
+use lib.Dec.{eqb}
+use borrow.Author.Tests.{not-false, eq-eqb, ne-eqb, eqb-true, eqb-false, le-ltb, lt-ltb, ltb-true}
+use Rattle.lists.proofs.Bools.{eq-not, ne-not, not-eq, or-left}
 use Rattle.lists.proofs.Checks.{refused-at, refused-none, passed, each}
 use Rattle.octets.specs.Octets.{numberOf, octetsOf, stored}
 use Rattle.octets.proofs.Laws.{elements, take-elements, length-octets, number-octets-small, stored-front, stored-all, stored-stored}
@@ -31,20 +31,14 @@ module _ (s : List ℕ) where
   fault-length = go (eqb (length s) 25) refl
     where
       go : (b : Bool) → eqb (length s) 25 ≡ b → (not b || not (eqb (getD s 1 0) 23)) ≡ true → Fault s 1 (cond b 1 (length s))
-      go true e h = lengthOctet refl refl (eqb-true _ _ e) (eqb-false _ _ (not-true _ h))
+      go true e h = lengthOctet refl refl (eqb-true _ _ e) (not-eq h)
       go false e h = total refl refl (eqb-false _ _ e)
 
   pub route-fault : Fault s (routeNumber s) (routePlace s)
   unfolding routeNumber placeOf routeEsi routeAddress
   route-fault =
-      each (λ (n : ℕ). Fault s n (placeOf n s)) _ (
-      λ h. fault-total (λ e. omega (arith, ltb-true (length s) 21 h)), λ _. (
-      λ h. type refl refl (eqb-false _ _ (not-true _ h)), λ _. (
-      λ h. bits refl refl (eqb-false _ _ (not-true _ h)), λ _. (
-      fault-length, λ _. (
-      λ h. identifier refl refl h, λ _. (
-      λ h. zeroAddress refl refl h, λ _.
-      none refl refl))))))
+      each (λ (n : ℕ). Fault s n (placeOf n s)) _
+      (λ h. fault-total (λ e. omega (arith, ltb-true (length s) 21 h)), (λ h. type refl refl (not-eq h), (λ h. bits refl refl (not-eq h), (fault-length, (identifier refl refl, (zeroAddress refl refl, none refl refl))))))
 
 -- WHAT THE CHECK ANSWERS
 module _ (s : List ℕ) where
