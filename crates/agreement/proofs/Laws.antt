@@ -9,9 +9,11 @@ use lib.ListN.{length, getD, drop, drop-of-length-le}
 use lib.Seq.{drop-cons}
 use lib.Dec.{ltb, eqb}
 use borrow.Author.Tests.{lt-ltb, le-ltb, eq-eqb, ne-eqb}
-use Rattle.keyed.proofs.Order.{Same, yea, nay, same}
+use Rattle.lists.specs.Lists.{bit}
+use Rattle.lists.proofs.Bools.{bit-halves}
+use Rattle.lists.proofs.Numbers.{Same, yea, nay, same}
 use Rattle.layout.specs.Table.{Entry, noEntry}
-use Rattle.layout.specs.Words.{bit, kindOf}
+use Rattle.layout.specs.Words.{kindOf}
 use Rattle.agreement.specs.Agreement.{allCarry, fallback, inUse}
 use Rattle.agreement.specs.Steps.{allOfKind}
 use Rattle.agreement.specs.declared.InUse.{InUse}
@@ -66,11 +68,7 @@ in-use-first e l = rw (kind-carry e (e ∷ l), carries-own (e .algorithm) (e .«
 
 kind-halves : (e : Entry) → (kindOf e / 2 ≡ e .algorithm) × (eqb (kindOf e % 2) 1 ≡ e .«ac_df»)
 unfolding kindOf
-kind-halves e = go (e .«ac_df»)
-  where
-    go : (b : Bool) → ((e .algorithm * 2 + bit b) / 2 ≡ e .algorithm) × (eqb ((e .algorithm * 2 + bit b) % 2) 1 ≡ b)
-    go true = (omega arith, eq-eqb ((e .algorithm * 2 + 1) % 2) 1 (omega arith))
-    go false = (omega arith, ne-eqb ((e .algorithm * 2 + 0) % 2) 1 (λ f. omega arith))
+kind-halves e = bit-halves (e .algorithm) (e .«ac_df»)
 
 module _ (es : List Entry) where
   pub in-use-empty : length es ≡ 0 → fallback ≡ inUse es

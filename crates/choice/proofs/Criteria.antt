@@ -1,15 +1,16 @@
 -- Criteria in their order make a strict order (`Order` of Laws.antt), and over a list whose keys rise the best by a score is the first with the greatest.
 -- Assumes nothing.
-use Prim.Native.Nat.{ℕ, zero, suc, _≤_, _<_, zero-le, suc-le-suc}
-use native.Mathlib.Nat.{le-of-suc-le-suc, not-suc-le-zero, zero-lt-suc}
+use Prim.Native.Nat.{ℕ, suc, _<_}
 use native.Mathlib.Omega.{arith}
 use mathlib.Core.Path.{_≡_, refl, ap, sym, _∙_}
 use mathlib.Core.Bool.{Bool, true, false, cond, not, _&&_}
-use mathlib.Core.List.{List, [], _∷_, List·Memᴰ, List·Memᴰ·head, List·Memᴰ·tail, List·Memᴰ·not-nil}
-use lib.ListN.{length, getD}
+use mathlib.Core.List.{List, [], _∷_, List·Memᴰ·head, List·Memᴰ·tail, List·Memᴰ·not-nil}
 use borrow.Author.Tests.{ltb-true, ltb-false, lt-ltb, le-ltb}
+use Rattle.lists.proofs.Bools.{true-false, not-true-false, not-false-true}
+use Rattle.keyed.specs.Keyed.{Rising}
+use Rattle.keyed.proofs.Keyed.{rising-weaken, rising-mem}
 use Rattle.choice.specs.Choice.{best, decided, higher, lower, flagged, andThen, byScore}
-use Rattle.choice.proofs.Laws.{Order, Unique, true-false, not-true-false, not-false-true, at-mem}
+use Rattle.choice.proofs.Laws.{Order, Unique}
 
 -- ---- one criterion
 
@@ -128,49 +129,14 @@ module _ {A : Type 0} (score key : A → ℕ) where
 -- ---- lists whose keys rise
 
 module _ {A : Type 0} (key : A → ℕ) where
-  -- each key of l is at least n, and above the one before it
-  abbrev pub Ascending : ℕ → List A → Type 0
-  Ascending n [] = Unit {0}
-  Ascending n (x ∷ l) = (n ≤ key x) × Ascending (suc (key x)) l
-
-  pub ascending-weaken : (m n : ℕ) (l : List A) → m ≤ n → Ascending n l → Ascending m l
-  ascending-weaken m n [] h r = tt
-  ascending-weaken m n (x ∷ l) h r = (omega (arith, r .0), r .1)
-
-  ascending-mem : (n : ℕ) (l : List A) {a : A} → Ascending n l → List·Memᴰ a l → n ≤ key a
-  ascending-mem n [] r h = absurd (List·Memᴰ·not-nil h)
-  ascending-mem n (x ∷ l) r (List·Memᴰ·head e) = omega (arith, ap key e, r .0)
-  ascending-mem n (x ∷ l) r (List·Memᴰ·tail h) = omega (arith, ascending-mem (suc (key x)) l (r .1) h, r .0)
-
   -- a key belongs to one element
-  pub unique-ascending : (n : ℕ) (l : List A) → Ascending n l → Unique key l
-  unique-ascending n [] r a b h k e = absurd (List·Memᴰ·not-nil h)
-  unique-ascending n (x ∷ l) r a b (List·Memᴰ·head p) (List·Memᴰ·head q) e = p ∙ sym q
-  unique-ascending n (x ∷ l) r a b (List·Memᴰ·head p) (List·Memᴰ·tail k) e =
-      absurd (omega (arith, ap key p, ascending-mem (suc (key x)) l (r .1) k))
-  unique-ascending n (x ∷ l) r a b (List·Memᴰ·tail h) (List·Memᴰ·head q) e =
-      absurd (omega (arith, ap key q, ascending-mem (suc (key x)) l (r .1) h))
-  unique-ascending n (x ∷ l) r a b (List·Memᴰ·tail h) (List·Memᴰ·tail k) e = unique-ascending (suc (key x)) l (r .1) a b h k e
-
-  -- the same by places
-  abbrev pub AscendingAt : List A → A → Type 0
-  AscendingAt l d = (i j : ℕ) → i < j → j < length l → key (getD l i d) < key (getD l j d)
-
-  pub ascending-at : (n : ℕ) (l : List A) (d : A) → Ascending n l → AscendingAt l d
-  ascending-at n [] d r i j g h = absurd (not-suc-le-zero h)
-  ascending-at n (x ∷ l) d r i zero g h = absurd (not-suc-le-zero g)
-  ascending-at n (x ∷ l) d r zero (suc j) g h = ascending-mem (suc (key x)) l (r .1) (at-mem l j d (le-of-suc-le-suc h))
-  ascending-at n (x ∷ l) d r (suc i) (suc j) g h = ascending-at (suc (key x)) l d (r .1) i j (le-of-suc-le-suc g) (le-of-suc-le-suc h)
-
-  ascending-from : (n : ℕ) (l : List A) (d : A) → (0 < length l → n ≤ key (getD l 0 d)) → AscendingAt l d → Ascending n l
-  ascending-from n [] d b f = tt
-  ascending-from n (x ∷ l) d b f = (
-    b (zero-lt-suc (length l)),
-    ascending-from (suc (key x)) l d (λ h. f 0 1 (zero-lt-suc 0) (suc-le-suc h)) (λ i j g h. f (suc i) (suc j) (suc-le-suc g) (suc-le-suc h)),
-  )
-
-  pub ascending-of : (l : List A) (d : A) → AscendingAt l d → Ascending 0 l
-  ascending-of l d f = ascending-from 0 l d (λ h. zero-le) f
+  pub unique-rising : (n : ℕ) (l : List A) → Rising key n l → Unique key l
+  unfolding Rising
+  unique-rising n [] r a b h k e = absurd (List·Memᴰ·not-nil h)
+  unique-rising n (x ∷ l) r a b (List·Memᴰ·head p) (List·Memᴰ·head q) e = p ∙ sym q
+  unique-rising n (x ∷ l) r a b (List·Memᴰ·head p) (List·Memᴰ·tail k) e = absurd (omega (arith, ap key p, rising-mem key l (suc (key x)) (r .1) k))
+  unique-rising n (x ∷ l) r a b (List·Memᴰ·tail h) (List·Memᴰ·head q) e = absurd (omega (arith, ap key q, rising-mem key l (suc (key x)) (r .1) h))
+  unique-rising n (x ∷ l) r a b (List·Memᴰ·tail h) (List·Memᴰ·tail k) e = unique-rising (suc (key x)) l (r .1) a b h k e
 
 -- ---- the first with the greatest score
 
@@ -179,17 +145,18 @@ module _ {A : Type 0} (wins : A → A → Bool) (key : A → ℕ) where
   pub then-later : (x y : A) → key x < key y → andThen wins (lower key) y x ≡ wins y x
   then-later x y h = rw (le-ltb (key y) (key x) (omega arith)) (decided-none (wins y x) (wins x y))
 
-  later-step : (x y : A) (l : List A) (t : Bool) → Ascending key (suc (key x)) (y ∷ l) → Ascending key (suc (key (cond t y x))) l
+  later-step : (x y : A) (l : List A) (t : Bool) → Rising key (suc (key x)) (y ∷ l) → Rising key (suc (key (cond t y x))) l
+  unfolding Rising
   later-step x y l true r = r .1
-  later-step x y l false r = ascending-weaken key (suc (key x)) (suc (key y)) l (omega (arith, r .0)) (r .1)
+  later-step x y l false r = rising-weaken key l (suc (key x)) (suc (key y)) (omega (arith, r .0)) (r .1)
 
   -- so over a list whose keys rise, a walk by the criterion alone finds the best
-  pub best-later : (x : A) (l : List A) → Ascending key (suc (key x)) l → best (andThen wins (lower key)) x l ≡ best wins x l
-  unfolding best
+  pub best-later : (x : A) (l : List A) → Rising key (suc (key x)) l → best (andThen wins (lower key)) x l ≡ best wins x l
+  unfolding best Rising
   best-later x [] r = refl
   best-later x (y ∷ l) r = rw (then-later x y (r .0)) (best-later (cond (wins y x) y x) l (later-step x y l (wins y x) r))
 
 module _ {A : Type 0} (score key : A → ℕ) where
   -- where keys rise, a walk that changes over only for a greater score finds it
-  pub best-walk : (x : A) (l : List A) → Ascending key (suc (key x)) l → best (byScore score key) x l ≡ best (higher score) x l
+  pub best-walk : (x : A) (l : List A) → Rising key (suc (key x)) l → best (byScore score key) x l ≡ best (higher score) x l
   best-walk = best-later (higher score) key

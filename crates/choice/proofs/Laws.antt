@@ -1,37 +1,18 @@
 -- Laws of `specs/Choice.antt`, over any element: the best of a list is in it, nothing in it is better, and it is the only such element, so it does not
 -- depend on how the list is walked, and losers may come and go.
 -- Assumes nothing.
-use Prim.Native.Nat.{ℕ, zero, suc, _<_}
-use native.Mathlib.Nat.{le-of-suc-le-suc, not-suc-le-zero}
-use native.Mathlib.Omega.{arith}
+use Prim.Native.Nat.{ℕ}
 use mathlib.Core.Path.{_≡_, refl, ap, sym, _∙_}
 use mathlib.Core.Bool.{Bool, true, false, cond, not}
 use mathlib.Core.List.{List, [], _∷_, List·Memᴰ, List·Memᴰ·head, List·Memᴰ·tail, List·Memᴰ·not-nil, List·Memᴰ·eq-of-singleton, Memᴰ·append-right}
-use lib.ListN.{length, getD}
 use lib.Dec.{eqb}
 use borrow.Author.Tests.{ne-eqb}
+use Rattle.lists.proofs.Bools.{true-false, not-true-false, not-false-true}
 use Rattle.choice.specs.Choice.{best, bestOf, kept}
 
--- ---- tests and members
-
-pub true-false : {b : Bool} → b ≡ true → b ≡ false → ⊥
-true-false p q = let z : _≡_ {A = ℕ} 0 1 = cc in omega arith
-
--- a test that is not true is false, and the other way round
-pub not-true-false : {b : Bool} → (b ≡ true → ⊥) → b ≡ false
-not-true-false {b = true} n = absurd (n refl)
-not-true-false {b = false} n = refl
-
-pub not-false-true : {b : Bool} → (b ≡ false → ⊥) → b ≡ true
-not-false-true {b = true} n = refl
-not-false-true {b = false} n = absurd (n refl)
+-- ---- members
 
 module _ {A : Type 0} where
-  pub at-mem : (l : List A) (i : ℕ) (d : A) → i < length l → List·Memᴰ (getD l i d) l
-  at-mem [] i d h = absurd (not-suc-le-zero h)
-  at-mem (x ∷ l) zero d h = List·Memᴰ·head refl
-  at-mem (x ∷ l) (suc i) d h = List·Memᴰ·tail (at-mem l i d (le-of-suc-le-suc h))
-
   mem-under : {a x : A} {l m : List A} → (List·Memᴰ a m → List·Memᴰ a l) → List·Memᴰ a (x ∷ m) → List·Memᴰ a (x ∷ l)
   mem-under f (List·Memᴰ·head e) = List·Memᴰ·head e
   mem-under f (List·Memᴰ·tail h) = List·Memᴰ·tail (f h)

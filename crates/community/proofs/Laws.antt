@@ -1,7 +1,6 @@
 -- Laws of `specs/Community.antt`: what a list says, walked from place to place, and that a written community reads back. Assumes nothing.
 use Prim.Native.Nat.{ℕ, suc, _+_, _-_, _/_, _%_, _≤_, _<_}
 use native.Mathlib.Nat.{mod-eq-of-lt, add-zero}
-use native.Mathlib.Decide.{ℕ-discrete}
 use native.Mathlib.Omega.{arith}
 use mathlib.Core.Path.{_≡_, refl, ap, sym, _∙_}
 use mathlib.Core.Bool.{Bool, true, false, cond, _&&_, and-false}
@@ -10,6 +9,8 @@ use lib.ListN.{length, getD, take, drop, length-drop}
 use lib.Seq.{length-take-le, getD-take, getD-drop, drop-drop, take-all, take-at}
 use lib.Dec.{eqb}
 use borrow.Author.Tests.{eq-eqb, ne-eqb, le-leb, lt-leb, le-ltb, lt-ltb}
+use Rattle.lists.proofs.Bools.{cond-by, one-of-two}
+use Rattle.lists.proofs.Checks.{refused-at, refused-none}
 use Rattle.octets.specs.Octets.{numberOf, octetsOf, stored}
 use Rattle.octets.proofs.Laws.{length-octets, number-octets-small, stored-front, take-elements}
 use Rattle.community.specs.Community.{weighsPreference, electionUnder, noElection, readCommunity, communityOctets, isElection, communities, elections, chosen, listFits, electionIn, readList, writeNumber, communityWritten}
@@ -27,11 +28,7 @@ module _ (a : ℕ) (ac d : Bool) (p : ℕ) where
   under-test w e = rw e
 
   pub under-weighs : 2 ≤ a → a ≤ 3 → Says a ac d p ≡ electionUnder a ac d p
-  under-weighs h k = sym (under-test true (go (ℕ-discrete a 2)))
-    where
-      go : Dec (a ≡ 2) → weighsPreference a ≡ true
-      go (yes e) = rw (eq-eqb a 2 e)
-      go (no n) = let e : a ≡ 3 = omega (arith, n) in rw (ne-eqb a 2 n, eq-eqb a 3 e)
+  under-weighs h k = sym (under-test true (one-of-two 2 a h k))
 
   pub under-other : (a ≡ 2 → ⊥) → (a ≡ 3 → ⊥) → Says a ac false 0 ≡ electionUnder a ac d p
   under-other m n = sym (under-test false (rw (ne-eqb a 2 m, ne-eqb a 3 n)))
@@ -186,24 +183,18 @@ module _ (d : List ℕ) (a : ℕ) (ac dp : Bool) (p : ℕ) where
   unfolding communityWritten
   refused n e = (e, (rw (← e, ne-eqb (suc n) 0 (λ z. omega arith)), λ z. absurd (omega arith)))
 
-  number-high : 31 < a → 15 ≡ writeNumber a (length d)
-  unfolding writeNumber
-  number-high h = rw (lt-ltb _ _ h)
-
-  number-short : a ≤ 31 → length d < 8 → 14 ≡ writeNumber a (length d)
-  unfolding writeNumber
-  number-short h k = rw (le-ltb _ _ h, lt-ltb _ _ k)
-
   pub wrote-high : 31 < a → Wrote 15 d
-  wrote-high h = refused 14 (number-high h)
+  unfolding writeNumber
+  wrote-high h = refused 14 (refused-at 0 _ tt (lt-ltb _ _ h))
 
   pub wrote-short : a ≤ 31 → length d < 8 → Wrote 14 d
-  wrote-short h k = refused 13 (number-short h k)
+  unfolding writeNumber
+  wrote-short h k = refused 13 (refused-at 1 _ (le-ltb _ _ h, tt) (lt-ltb _ _ k))
 
   module _ (h : a ≤ 31) (k : 8 ≤ length d) (b : p < 65536) where
     number-right : 0 ≡ writeNumber a (length d)
     unfolding writeNumber
-    number-right = rw (le-ltb _ _ h, le-ltb _ _ k)
+    number-right = refused-none _ (le-ltb _ _ h, (le-ltb _ _ k, tt))
 
     abbrev e : Election
     e = electionUnder a ac dp p
@@ -214,11 +205,7 @@ module _ (d : List ℕ) (a : ℕ) (ac dp : Bool) (p : ℕ) where
 
     small : e .preference < 65536
     unfolding electionUnder
-    small = go (weighsPreference a)
-      where
-        go : (w : Bool) → cond w p 0 < 65536
-        go true = b
-        go false = omega arith
+    small = cond-by (λ (q : ℕ). q < 65536) (weighsPreference a) (λ _. b) (λ _. omega arith)
 
     reads-back : readList (take 8 (communityOctets e ++ drop 8 d)) ≡ record { number = 0; election = e }
     unfolding electionUnder

@@ -18,6 +18,7 @@ use mathlib.Core.Bool.{Bool, false, cond, _&&_, _||_}
 use mathlib.Core.List.{List, [], _∷_, _++_}
 use lib.ListN.{length, getD, take, drop}
 use lib.Dec.{ltb, leb, eqb}
+use Rattle.lists.specs.Checks.{firstRefusal}
 use Rattle.octets.specs.Octets.{numberOf, octetsOf}
 use Rattle.community.specs.declared.Election.{Election}
 use Rattle.community.specs.declared.ListRead.{ListRead}
@@ -76,7 +77,12 @@ readList s =
 
 -- WRITING: 15 for an algorithm above 31, then 14 for a buffer under 8 octets; only the first 8 octets change
 unfoldable pub writeNumber : ℕ → ℕ → ℕ
-writeNumber a n = cond (ltb 31 a) 15 (cond (ltb n 8) 14 0)
+writeNumber a n =
+    firstRefusal (
+    (ltb 31 a, 15)
+    ∷ (ltb n 8, 14)
+    ∷ []
+    )
 
 unfoldable pub communityWritten : List ℕ → ℕ → Bool → Bool → ℕ → List ℕ
 communityWritten d a ac dp p =

@@ -10,30 +10,28 @@ use lib.Dec.{ltb, eqb}
 use lib.Count.{ones}
 use lib.Pow.{pow-mono}
 use borrow.Author.Tests.{lt-ltb, le-ltb, eq-eqb, ne-eqb, ltb-true, eqb-true, eqb-false}
+use Rattle.lists.proofs.Lists.{empty, at-mem}
+use Rattle.keyed.specs.Keyed.{Rising}
 use Rattle.layout.specs.Table.{Entry, entryKey, noEntry, Table, WellFormed}
 use Rattle.places.specs.Places.{places, setOf}
 use Rattle.places.proofs.Laws.{places-none, places-empty, length-places, places-under}
 use Rattle.places.proofs.Flags.{setOf-lt, picked-places}
 use Rattle.choice.specs.Choice.{bestOf}
-use Rattle.choice.proofs.Laws.{Unique, at-mem, best-in, best-top, best-only, bestOf-cons}
-use Rattle.choice.proofs.Criteria.{Ascending, unique-ascending}
+use Rattle.choice.proofs.Laws.{Unique, best-in, best-top, best-only, bestOf-cons}
+use Rattle.choice.proofs.Criteria.{unique-rising}
 use Rattle.hrw.specs.Weight.{digestOf}
 use Rattle.agreement.specs.Agreement.{inUse}
 use Rattle.agreement.specs.declared.InUse.{InUse}
 use Rattle.ready.specs.Ready.{eligible, candidates, candidateSet}
 use Rattle.winner.specs.Winner.{better, elected, entriesAt}
 use Rattle.winner.proofs.Orders.{order-better, better-any}
-use Rattle.winner.proofs.Laws.{places-ascending}
+use Rattle.winner.proofs.Laws.{places-rising}
 use Rattle.election.specs.Election.{refusedAnswer, reservedTag, candidatesOf, answerOf, electOf, NoneNamed, Forwarder}
 use Rattle.election.specs.Steps.{digestUnder, namedOf, answerFor}
 use Rattle.election.specs.declared.Answer.{Answer}
 
 ones-none : 0 ≡ ones 0
 ones-none = ap length (sym places-none) ∙ length-places 0 (omega arith)
-
-empty : {A : Type 0} (l : List A) → length l ≡ 0 → l ≡ []
-empty [] q = refl
-empty (x ∷ l) q = absurd (omega arith)
 
 -- the elected one does not depend on a digest that its algorithm does not ask for
 elected-under : (a tag : ℕ) (i : List ℕ) (cs : List Entry) → elected a tag (digestUnder a tag i) cs ≡ elected a tag (digestOf tag i) cs
@@ -154,8 +152,8 @@ module _ (t : Table) (w : WellFormed t) (tag : ℕ) (ready : List ℕ) where
   elects-11 h k = (rw (h, lt-ltb _ _ k), ones-none)
 
   -- WHO is named
-  ascending : Ascending entryKey 0 cs
-  ascending = subst (λ (l : List Entry). Ascending entryKey 0 l) (sym by-places) (places-ascending es (w .short) (w .rising) (places set) (places-under set (length es) set-under))
+  rising : Rising entryKey 0 cs
+  rising = subst (λ (l : List Entry). Rising entryKey 0 l) (sym by-places) (places-rising es (w .short) (w .rising) (places set) (places-under set (length es) set-under))
 
   abbrev a : ℕ
   a = u .algorithm
@@ -186,7 +184,7 @@ module _ (t : Table) (w : WellFormed t) (tag : ℕ) (ready : List ℕ) where
   unfolding elected
   chosen h =
       let n = accepted-names (t .esi) es tag ready h in
-      let q = unique-ascending entryKey 0 cs ascending in
+      let q = unique-rising entryKey 0 cs rising in
       record {
         entry = elected a tag d cs;
         address = n .1;

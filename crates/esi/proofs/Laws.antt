@@ -3,12 +3,14 @@
 use Prim.Native.Nat.{ℕ, _<_, _≤_}
 use native.Mathlib.Omega.{arith}
 use mathlib.Core.Path.{_≡_, refl, sym, ap, _∙_}
-use mathlib.Core.Bool.{Bool, true, false, cond, not, _||_, true≢false, and-eq-true-iff, and-false}
+use mathlib.Core.Bool.{Bool, true, false, cond, not, _||_, and-eq-true-iff, and-false}
 use mathlib.Core.List.{List, _++_}
 use lib.ListN.{length, take, drop, replicate}
 use lib.Seq.{take-all, take-at}
 use lib.Dec.{eqb}
-use borrow.Author.Tests.{eq-eqb, ne-eqb, eqb-true, lt-ltb, le-ltb}
+use borrow.Author.Tests.{not-false, eq-eqb, ne-eqb, eqb-true, lt-ltb, le-ltb}
+use Rattle.lists.proofs.Bools.{or-left}
+use Rattle.lists.proofs.Checks.{refused-at, refused-none}
 use Rattle.octets.specs.Octets.{allAre}
 use Rattle.octets.proofs.Laws.{Octets, octets-replicate}
 use Rattle.esi.specs.declared.TextRead.{TextRead}
@@ -35,11 +37,7 @@ module _ (s : List ℕ) where
 
   pub length-not-reserved : reserved s ≡ false → length s ≡ 10
   unfolding reserved
-  length-not-reserved h = eqb-true (length s) 10 (or-left (eqb (length s) 10) (allAre 0 s || allAre 255 s) h)
-    where
-      or-left : (a b : Bool) → (not a || b) ≡ false → a ≡ true
-      or-left true b e = refl
-      or-left false b e = absurd (true≢false e)
+  length-not-reserved h = eqb-true (length s) 10 (not-false _ (or-left _ (allAre 0 s || allAre 255 s) h))
 
 -- ---- the three answers of reading
 
@@ -130,25 +128,25 @@ module _ (s : List ℕ) (o : Octets s) where
 -- ---- the answers of writing
 
 module _ (d s : List ℕ) where
-  pub number-reserved : reserved s ≡ true → writeTextNumber (length d) s ≡ 4
+  pub number-reserved : reserved s ≡ true → 4 ≡ writeTextNumber (length d) s
   unfolding writeTextNumber
-  number-reserved h = rw h
+  number-reserved h = refused-at 0 _ tt h
 
-  pub number-short : reserved s ≡ false → length d < 29 → writeTextNumber (length d) s ≡ 14
+  pub number-short : reserved s ≡ false → length d < 29 → 14 ≡ writeTextNumber (length d) s
   unfolding writeTextNumber
-  number-short h k = rw (h, lt-ltb (length d) 29 k)
+  number-short h k = refused-at 1 _ (h, tt) (lt-ltb _ _ k)
 
-  pub number-written : reserved s ≡ false → 29 ≤ length d → writeTextNumber (length d) s ≡ 0
+  pub number-written : reserved s ≡ false → 29 ≤ length d → 0 ≡ writeTextNumber (length d) s
   unfolding writeTextNumber
-  number-written h k = rw (h, le-ltb (length d) 29 k)
+  number-written h k = refused-none _ (h, (le-ltb _ _ k, tt))
 
   pub written-refused : (writeTextNumber (length d) s ≡ 0 → ⊥) → textWritten d s ≡ d
   unfolding textWritten
   written-refused n = rw (ne-eqb (writeTextNumber (length d) s) 0 n)
 
-  pub written-text : writeTextNumber (length d) s ≡ 0 → textWritten d s ≡ textOf s ++ drop 29 d
+  pub written-text : 0 ≡ writeTextNumber (length d) s → textWritten d s ≡ textOf s ++ drop 29 d
   unfolding textWritten
-  written-text e = rw (eq-eqb (writeTextNumber (length d) s) 0 e)
+  written-text e = rw (← e)
 
-  pub take-written : writeTextNumber (length d) s ≡ 0 → take 29 (textWritten d s) ≡ textOf s
+  pub take-written : 0 ≡ writeTextNumber (length d) s → take 29 (textWritten d s) ≡ textOf s
   take-written e = rw (written-text e) (take-at (textOf s) (drop 29 d) 29 (length-text s))

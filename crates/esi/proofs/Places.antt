@@ -4,7 +4,7 @@ use Prim.Native.Nat.{ℕ, zero, suc, _+_, _*_, _/_, _%_, _≤_, _<_}
 use native.Mathlib.Nat.{not-suc-le-zero, le-of-suc-le-suc, mod-lt, div-add-mod, div-add-mod', add-zero, zero-add, mul-mod-right, mul-add-mod-self-left}
 use native.Mathlib.Numerals.{add-one}
 use native.Mathlib.Omega.{arith}
-use mathlib.Core.Path.{_≡_, refl, sym, ap, _∙_, subst}
+use mathlib.Core.Path.{_≡_, refl, sym, _∙_, subst}
 use mathlib.Core.Bool.{Bool, true, false, cond, _&&_}
 use mathlib.Core.List.{List, [], _∷_}
 use lib.ListN.{length, getD, take, drop, length-take, length-map, drop-of-length-le, List·getD-map}
@@ -12,22 +12,13 @@ use lib.Seq.{ext-getD, drop-cons, getD-take}
 use lib.Arith.{digits-div, digits-mod}
 use lib.Dec.{ltb, eqb}
 use borrow.Author.Tests.{eq-eqb, ne-eqb, eqb-true, lt-ltb, ltb-true}
+use Rattle.lists.specs.Lists.{tabulate}
+use Rattle.lists.proofs.Lists.{length-tabulate, getD-tabulate}
 use Rattle.octets.proofs.Laws.{Octets, octets-nil, octets-cons}
-use Rattle.esi.specs.Text.{digitValue, digitOf, rightAt, wrongFrom, firstWrong, rightIn, FirstFault, tabulate, octetAt, esiIn, textAt, textOf, lower, lowerCase}
+use Rattle.esi.specs.Text.{digitValue, digitOf, rightAt, wrongFrom, firstWrong, rightIn, FirstFault, octetAt, esiIn, textAt, textOf, lower, lowerCase}
 use Rattle.esi.proofs.Digits.{value-digit, digit-value}
 
 -- ---- a list by its places
-
-pub length-tabulate : (n : ℕ) (f : ℕ → ℕ) → length (tabulate n f) ≡ n
-unfolding tabulate
-length-tabulate zero f = refl
-length-tabulate (suc n) f = ap suc (length-tabulate n (λ k. f (suc k)))
-
-pub getD-tabulate : (n : ℕ) (f : ℕ → ℕ) (i : ℕ) → i < n → getD (tabulate n f) i 0 ≡ f i
-unfolding tabulate
-getD-tabulate zero f i h = absurd (not-suc-le-zero h)
-getD-tabulate (suc n) f zero h = refl
-getD-tabulate (suc n) f (suc i) h = getD-tabulate n (λ k. f (suc k)) i (le-of-suc-le-suc h)
 
 octets-tabulate : (n : ℕ) (f : ℕ → ℕ) → ((k : ℕ) → k < n → f k < 256) → Octets (tabulate n f)
 unfolding tabulate
@@ -184,7 +175,7 @@ lower-colon = refl
 
 pub getD-esi : (t : List ℕ) (k : ℕ) → k < 10 → getD (esiIn t) k 0 ≡ octetAt t k
 unfolding esiIn
-getD-esi t k h = getD-tabulate 10 (octetAt t) k h
+getD-esi t k h = getD-tabulate 10 (octetAt t) k 0 h
 
 module _ (t : List ℕ) (r : Right t) where
   value-at : (i : ℕ) → i < 29 → i % 3 < 2 → digitValue (getD t i 0) < 16
@@ -244,7 +235,7 @@ length-text s = length-tabulate 29 (textAt s)
 
 pub getD-text : (s : List ℕ) (i : ℕ) → i < 29 → getD (textOf s) i 0 ≡ textAt s i
 unfolding textOf
-getD-text s i h = getD-tabulate 29 (textAt s) i h
+getD-text s i h = getD-tabulate 29 (textAt s) i 0 h
 
 pub esi-octets : (t : List ℕ) → Right t → Octets (esiIn t)
 unfolding esiIn
@@ -284,4 +275,4 @@ module _ (s : List ℕ) (o : Octets s) where
   unfolding esiIn
   esi-text n =
       ext-getD 0 (esiIn (textOf s)) s (length-esi (textOf s) ∙ sym n)
-      (λ k h. let j : k < 10 = rw (length-esi (textOf s)) at h in getD-tabulate 10 (octetAt (textOf s)) k j ∙ octet-text k j)
+      (λ k h. let j : k < 10 = rw (length-esi (textOf s)) at h in getD-tabulate 10 (octetAt (textOf s)) k 0 j ∙ octet-text k j)

@@ -8,7 +8,6 @@
 --   rightIn t i         == whether a right character stands at place i of t: i is one of the 29 places, and the character there is neither missing nor wrong
 --   FirstFault t p      == the characters of t before place p are right, and the one at p is not: it is wrong, or missing, or one too many
 --   wellFormed t        == whether t is 29 characters and none is wrong
---   tabulate n f        == f 0, f 1, and so on, n of them
 --   octetAt t k         == octet k of the identifier that t says
 --   esiIn t             == the identifier that t says
 --   accepted s          == the answer with the identifier s
@@ -21,12 +20,14 @@
 --   lowerCase t         == t with each such digit in lower case
 --   writeTextNumber n s == the number answered for writing the identifier s into a buffer of n characters
 --   textWritten d s     == the buffer d after that
-use Prim.Native.Nat.{ℕ, zero, suc, _+_, _-_, _*_, _/_, _%_, _<_}
+use Prim.Native.Nat.{ℕ, suc, _+_, _-_, _*_, _/_, _%_, _<_}
 use mathlib.Core.Path.{_≡_}
 use mathlib.Core.Bool.{Bool, true, false, cond, not, _&&_}
 use mathlib.Core.List.{List, [], _∷_, _++_, map}
 use lib.ListN.{length, getD, take, drop, replicate}
 use lib.Dec.{leb, ltb, eqb}
+use Rattle.lists.specs.Checks.{firstRefusal}
+use Rattle.lists.specs.Lists.{tabulate}
 use Rattle.esi.specs.declared.TextRead.{TextRead}
 use Rattle.esi.specs.Reserved.{reserved}
 
@@ -56,10 +57,6 @@ FirstFault t p = ((i : ℕ) → i < p → rightIn t i ≡ true) × (rightIn t p 
 
 unfoldable pub wellFormed : List ℕ → Bool
 wellFormed t = eqb (length t) 29 && eqb (firstWrong t) 29
-
-unfoldable pub tabulate : ℕ → (ℕ → ℕ) → List ℕ
-tabulate zero f = []
-tabulate (suc n) f = f 0 ∷ tabulate n (λ k. f (suc k))
 
 unfoldable pub octetAt : List ℕ → ℕ → ℕ
 octetAt t k = digitValue (getD t (3 * k) 0) * 16 + digitValue (getD t (3 * k + 1) 0)
@@ -92,7 +89,12 @@ unfoldable pub lowerCase : List ℕ → List ℕ
 lowerCase t = map lower t
 
 unfoldable pub writeTextNumber : ℕ → List ℕ → ℕ
-writeTextNumber n s = cond (reserved s) 4 (cond (ltb n 29) 14 0)
+writeTextNumber n s =
+    firstRefusal (
+    (reserved s, 4)
+    ∷ (ltb n 29, 14)
+    ∷ []
+    )
 
 unfoldable pub textWritten : List ℕ → List ℕ → List ℕ
 textWritten d s = cond (eqb (writeTextNumber (length d) s) 0) (textOf s ++ drop 29 d) d

@@ -1,25 +1,16 @@
 -- What each half of an octet makes of an empty CRC register: both tables are computed once, and the rule holds of each entry. Assumes nothing.
-use Prim.Native.Nat.{ℕ, zero, suc, _+_, _*_, _≤_, _<_, zero-le}
-use native.Mathlib.Nat.{add-zero, zero-add, add-suc, suc-add, le-of-suc-le-suc, not-suc-le-zero}
+use Prim.Native.Nat.{ℕ, zero, suc, _*_, _≤_, _<_, zero-le}
 use native.Mathlib.Omega.{arith}
 use mathlib.Core.Path.{_≡_, refl, ap, _∙_, sym}
 use mathlib.Core.List.{List, [], _∷_}
 use lib.ListN.{getD}
+use Rattle.lists.specs.Lists.{tabulate}
+use Rattle.lists.proofs.Lists.{getD-tabulate}
 use Rattle.hrw.specs.Crc.{crcBit, crcBits}
 
--- f i, f (i + 1) and so on, n of them
-abbrev entries : (ℕ → ℕ) → ℕ → ℕ → List ℕ
-entries f i zero = []
-entries f i (suc n) = f i ∷ entries f (suc i) n
-
-from : (f : ℕ → ℕ) (n i k : ℕ) → k < n → getD (entries f i n) k 0 ≡ f (i + k)
-from f zero i k h = absurd (not-suc-le-zero h)
-from f (suc n) i zero h = ap f (sym (add-zero i))
-from f (suc n) i (suc k) h = from f n (suc i) k (le-of-suc-le-suc h) ∙ ap f (suc-add i k ∙ sym (add-suc i k))
-
 -- a list that is computed to be f's first 16 values holds f at each place
-entry : (f : ℕ → ℕ) (l : List ℕ) → l ≡ entries f 0 16 → (k j : ℕ) → k ≡ j → j < 16 → getD l j 0 ≡ f k
-entry f l e k j q h = ap (λ (m : List ℕ). getD m j 0) e ∙ from f 16 0 j h ∙ ap f (zero-add j ∙ sym q)
+entry : (f : ℕ → ℕ) (l : List ℕ) → l ≡ tabulate 16 f → (k j : ℕ) → k ≡ j → j < 16 → getD l j 0 ≡ f k
+entry f l e k j q h = ap (λ (m : List ℕ). getD m j 0) e ∙ getD-tabulate 16 f j 0 h ∙ ap f (sym q)
 
 -- the last arm of a `match` is left where no other is taken: k is none of 0 to n - 1
 abbrev Past : ℕ → ℕ → Type 0
@@ -45,12 +36,12 @@ low =
     ∷ 0x0EDB_8832 ∷ 0x79DC_B8A4 ∷ 0xE0D5_E91E ∷ 0x97D2_D988 ∷ 0x09B6_4C2B ∷ 0x7EB1_7CBD ∷ 0xE7B8_2D07 ∷ 0x90BF_1D91
     ∷ []
 
-high-right : high ≡ entries (λ k. crcBits 8 (k * 16)) 0 16
-unfolding crcBit crcBits
+high-right : high ≡ tabulate 16 (λ k. crcBits 8 (k * 16))
+unfolding crcBit crcBits tabulate
 high-right = refl
 
-low-right : low ≡ entries (crcBits 8) 0 16
-unfolding crcBit crcBits
+low-right : low ≡ tabulate 16 (crcBits 8)
+unfolding crcBit crcBits tabulate
 low-right = refl
 
 pub high-entry : (k j : ℕ) → k ≡ j → j < 16 → getD high j 0 ≡ crcBits 8 (k * 16)

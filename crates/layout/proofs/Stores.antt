@@ -1,13 +1,15 @@
 -- What the stores into a table's words make of the table: an entry's attributes replaced, an entry put in or taken out. Assumes nothing.
-use Prim.Native.Nat.{ℕ, zero, suc, _+_, _-_, _*_, _/_, _%_, _≤_, _<_}
+use Prim.Native.Nat.{ℕ, _+_, _-_, _*_, _/_, _%_, _≤_, _<_}
 use native.Mathlib.Omega.{arith}
-use native.Mathlib.Nat.{zero-add, suc-add}
 use mathlib.Core.Path.{_≡_, refl, ap, ap₂, _∙_, sym}
-use mathlib.Core.List.{List, [], _∷_, _++_, map, map-append, append-nil}
+use mathlib.Core.List.{List, [], _∷_, _++_, append-nil}
 use lib.ListN.{length, getD, take, drop, set, length-drop, length-map, length-set, drop-of-length-le}
-use lib.Seq.{take-at, drop-at, take-all}
+use lib.Seq.{map-set-same, take-at, drop-at, take-all}
 use borrow.Rule.Slice.PartMut.{putMid, same-len-mid}
 use lib.Dec.{eqb}
+use Rattle.lists.specs.Lists.{bit}
+use Rattle.lists.proofs.Bools.{bit-eqb}
+use Rattle.lists.proofs.Lists.{set-append-add, map-set}
 use Rattle.address.specs.Address.{addressRow}
 use Rattle.address.proofs.Laws.{row-length, row-back}
 use Rattle.keyed.specs.Keyed.{spliced, cut}
@@ -15,45 +17,8 @@ use Rattle.keyed.proofs.Keyed as keyed
 use Rattle.rows.specs.Rows.{column, inserted, removed}
 use Rattle.rows.proofs.Columns.{length-column, column-inserted, column-removed, column-set}
 use Rattle.layout.specs.Table.{Entry, noEntry, tableOf}
-use Rattle.layout.specs.Words.{bit, kindOf, standingOf, attributesOf, addressColumn, attributeColumn, entryIn, wordsOf}
+use Rattle.layout.specs.Words.{kindOf, standingOf, attributesOf, addressColumn, attributeColumn, entryIn, wordsOf}
 use Rattle.layout.proofs.Words.{wide-addresses, wide-attributes}
-
--- LISTS
-module _ {A : Type 0} where
-  set-append-add : (xs ys : List A) (n i : ℕ) (v : A) → length xs ≡ n → set (xs ++ ys) (n + i) v ≡ xs ++ set ys i v
-  set-append-add [] ys zero i v h = rw (zero-add i)
-  set-append-add [] ys (suc n) i v h = absurd (omega arith)
-  set-append-add (x ∷ xs) ys zero i v h = absurd (omega arith)
-  set-append-add (x ∷ xs) ys (suc n) i v h = rw (suc-add n i) (ap (x ∷_) (set-append-add xs ys n i v (omega arith)))
-
-module _ {A B : Type 0} (f : A → B) where
-  map-set : (l : List A) (i : ℕ) (x : A) → map f (set l i x) ≡ set (map f l) i (f x)
-  map-set [] i x = refl
-  map-set (y ∷ l) zero x = refl
-  map-set (y ∷ l) (suc i) x = ap (f y ∷_) (map-set l i x)
-
-  map-take : (n : ℕ) (l : List A) → map f (take n l) ≡ take n (map f l)
-  map-take zero l = refl
-  map-take (suc n) [] = refl
-  map-take (suc n) (x ∷ l) = ap (f x ∷_) (map-take n l)
-
-  map-drop : (n : ℕ) (l : List A) → map f (drop n l) ≡ drop n (map f l)
-  map-drop zero l = refl
-  map-drop (suc n) [] = refl
-  map-drop (suc n) (x ∷ l) = map-drop n l
-
-  map-spliced : (l : List A) (i : ℕ) (x : A) → map f (spliced l i x) ≡ spliced (map f l) i (f x)
-  unfolding spliced
-  map-spliced l i x = map-append f (take i l) (x ∷ drop i l) ∙ rw (map-take i l, map-drop i l)
-
-  map-cut : (l : List A) (i : ℕ) → map f (cut l i) ≡ cut (map f l) i
-  unfolding cut
-  map-cut l i = map-append f (take i l) (drop (suc i) l) ∙ rw (map-take i l, map-drop (suc i) l)
-
-  set-same : (l : List A) (i : ℕ) (x d : A) → i < length l → f x ≡ f (getD l i d) → set (map f l) i (f x) ≡ map f l
-  set-same [] i x d h e = refl
-  set-same (y ∷ l) zero x d h e = rw e
-  set-same (y ∷ l) (suc i) x d h e = ap (f y ∷_) (set-same l i x d (omega arith) e)
 
 -- A PART that goes on to the end
 pub part-all : (g : List ℕ) → take (length g - 64) (drop 64 g) ≡ drop 64 g
@@ -71,16 +36,11 @@ put-length g d h n = same-len-mid 64 (length g - 64) g d n
 attributes-back : (r : List ℕ) (w : ℕ) → attributesOf (entryIn r (w ∷ [])) ≡ w
 unfolding attributesOf kindOf standingOf entryIn
 attributes-back r w =
-    let c : bit (eqb (w / 131072 % 2) 1) ≡ w / 131072 % 2 = bit-of-bit (w / 131072 % 2) (omega arith) in
-    let d : bit (eqb (w % 131072 % 2) 1) ≡ w % 131072 % 2 = bit-of-bit (w % 131072 % 2) (omega arith) in
+    let c : bit (eqb (w / 131072 % 2) 1) ≡ w / 131072 % 2 = bit-eqb (w / 131072 % 2) (omega arith) in
+    let d : bit (eqb (w % 131072 % 2) 1) ≡ w % 131072 % 2 = bit-eqb (w % 131072 % 2) (omega arith) in
     let k : w / 131072 / 2 * 2 + w / 131072 % 2 ≡ w / 131072 = omega arith in
     let l : w % 131072 / 2 * 2 + w % 131072 % 2 ≡ w % 131072 = omega arith in
     rw (c, d, k, l) (omega arith)
-  where
-    bit-of-bit : (n : ℕ) → n < 2 → bit (eqb n 1) ≡ n
-    bit-of-bit zero h = refl
-    bit-of-bit (suc zero) h = refl
-    bit-of-bit (suc (suc n)) h = absurd (omega arith)
 
 address-back : (a : ℕ) (w : List ℕ) → entryIn (addressRow a) w .address ≡ a
 unfolding entryIn
@@ -132,8 +92,7 @@ module _ (b i : List ℕ) (es : List Entry) (short : length es ≤ 64) (whole : 
       ap (λ (g : List ℕ). set g (64 + at) w) parts
       ∙ set-append-add (column 1 64 (addressColumn es)) _ 64 at w (length-first es short)
       ∙ ap (column 1 64 (addressColumn es) ++_) (column-set 64 (attributeColumn es) (tail (length es)) at w (wide-attributes es) (omega (arith, length-map es wordOf)))
-      ∙ sym (rw (length-set es at e, map-set rowOf es at e, map-set wordOf es at e, attributes-back (rowOf (getD es at noEntry)) w)
-      (ap (λ (c : List (List ℕ)). column 1 64 c ++ (column 1 64 (set (attributeColumn es) at (w ∷ [])) ++ tail (length es))) (set-same rowOf es at e noEntry l (ap addressRow (address-back (getD es at noEntry .address) (w ∷ []))))))
+      ∙ sym (rw (length-set es at e, map-set-same rowOf es at e noEntry (ap addressRow (address-back (getD es at noEntry .address) (w ∷ []))), map-set wordOf es at e, attributes-back (rowOf (getD es at noEntry)) w))
 
   -- ONE ENTRY MORE
   module _ (at a w : ℕ) (l : at ≤ length es) (s : length es < 64) where
@@ -151,7 +110,7 @@ module _ (b i : List ℕ) (es : List Entry) (short : length es ≤ 64) (whole : 
         let n = length-map es rowOf in
         q ∙ rw (k, parts, ← n)
         (column-inserted 1 64 (addressColumn es) _ (wide-addresses es) at (addressRow a) (row-length a) (omega (arith, n)) (omega (arith, n))
-        ∙ ap (λ (c : List (List ℕ)). column 1 64 c ++ (column 1 64 (attributeColumn es) ++ tail (length (addressColumn es)))) (sym (map-spliced rowOf es at e ∙ ap (λ (x : ℕ). spliced (addressColumn es) at (addressRow x)) (address-back a (w ∷ [])))))
+        ∙ ap (λ (c : List (List ℕ)). column 1 64 c ++ (column 1 64 (attributeColumn es) ++ tail (length (addressColumn es)))) (sym (keyed.map-spliced rowOf es at e ∙ ap (λ (x : ℕ). spliced (addressColumn es) at (addressRow x)) (address-back a (w ∷ [])))))
 
     second-grown : (g d : List ℕ) → Parts g more es (length es) → d ≡ inserted (length es) at (w ∷ []) (drop 64 g)
         → set (take 64 g ++ d) 128 (length es + 1) ≡ wordsOf (tableOf i more)
@@ -162,7 +121,7 @@ module _ (b i : List ℕ) (es : List Entry) (short : length es ≤ 64) (whole : 
         let v : d ≡ column 1 64 (attributeColumn more) ++ tail (length es) =
         q ∙ rw (behind g more es (length es) m p, ← n)
         (column-inserted 1 64 (attributeColumn es) (tail (length (attributeColumn es))) (wide-attributes es) at (w ∷ []) refl (omega (arith, n)) (omega (arith, n))
-        ∙ ap (λ (c : List (List ℕ)). column 1 64 c ++ tail (length (attributeColumn es))) (sym (map-spliced wordOf es at e ∙ ap (λ (x : ℕ). spliced (attributeColumn es) at (x ∷ [])) (attributes-back (addressRow a) w)))) in
+        ∙ ap (λ (c : List (List ℕ)). column 1 64 c ++ tail (length (attributeColumn es))) (sym (keyed.map-spliced wordOf es at e ∙ ap (λ (x : ℕ). spliced (attributeColumn es) at (x ∷ [])) (attributes-back (addressRow a) w)))) in
         rw (before g more es (length es) m p, v, counted more more (length es) (length es + 1) m m, length-more)
 
     pub grown-words : (n : ℕ) (row g d : List ℕ) → n ≡ length es → row ≡ addressRow a → g ≡ inserted n at row b → d ≡ inserted n at (w ∷ []) (take (length g - 64) (drop 64 g))
@@ -184,7 +143,7 @@ module _ (b i : List ℕ) (es : List Entry) (short : length es ≤ 64) (whole : 
         let n = length-map es rowOf in
         q ∙ rw (parts, ← n)
         (column-removed 1 64 (addressColumn es) _ (wide-addresses es) at (omega (arith, n)) (omega (arith, n, short))
-        ∙ ap (λ (c : List (List ℕ)). column 1 64 c ++ (column 1 64 (attributeColumn es) ++ tail (length (addressColumn es)))) (sym (map-cut rowOf es at)))
+        ∙ ap (λ (c : List (List ℕ)). column 1 64 c ++ (column 1 64 (attributeColumn es) ++ tail (length (addressColumn es)))) (sym (keyed.map-cut rowOf es at)))
 
     second-shrunk : (g d : List ℕ) → Parts g less es (length es) → d ≡ removed 1 (length es) at (drop 64 g)
         → set (take 64 g ++ d) 128 (length es - 1) ≡ wordsOf (tableOf i less)
@@ -195,7 +154,7 @@ module _ (b i : List ℕ) (es : List Entry) (short : length es ≤ 64) (whole : 
         let v : d ≡ column 1 64 (attributeColumn less) ++ tail (length es) =
         q ∙ rw (behind g less es (length es) m p, ← n)
         (column-removed 1 64 (attributeColumn es) (tail (length (attributeColumn es))) (wide-attributes es) at (omega (arith, n)) (omega (arith, n, short))
-        ∙ ap (λ (c : List (List ℕ)). column 1 64 c ++ tail (length (attributeColumn es))) (sym (map-cut wordOf es at))) in
+        ∙ ap (λ (c : List (List ℕ)). column 1 64 c ++ tail (length (attributeColumn es))) (sym (keyed.map-cut wordOf es at))) in
         rw (before g less es (length es) m p, v, counted less less (length es) (length es - 1) m m, length-less)
 
     pub shrunk-words : (n : ℕ) (g d : List ℕ) → n ≡ length es → g ≡ removed 1 n at b → d ≡ removed 1 n at (take (length g - 64) (drop 64 g))

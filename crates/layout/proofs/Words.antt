@@ -1,42 +1,29 @@
 -- Laws of the words of a table: reading an entry's words gives the entry back, and a table's words the table; what each word of a table is. Assumes nothing.
-use Prim.Native.Nat.{ℕ, zero, suc, _+_, _*_, _/_, _%_, _≤_, _<_}
+use Prim.Native.Nat.{ℕ, _+_, _*_, _/_, _%_, _≤_, _<_}
 use native.Mathlib.Omega.{arith}
 use native.Mathlib.Numerals.{add-one}
 use mathlib.Core.Path.{_≡_, refl, ap, ap₂, _∙_, sym}
-use mathlib.Core.Bool.{Bool, true, false}
-use mathlib.Core.List.{List, [], _∷_, _++_, map, append-nil}
+use mathlib.Core.List.{List, [], _∷_, _++_, append-nil}
 use mathlib.Core.Logic.{⊎-elim}
 use lib.ListN.{length, getD, set, take, drop, length-append, length-map, length-replicate, drop-of-length-le}
 use lib.Seq.{paste, drop-at, drop-drop, getD-take, getD-drop, take-all, take-suc, take-suc-set}
-use lib.Dec.{eqb}
-use mir.Val.{boolByte}
+use Rattle.lists.specs.Lists.{Every}
+use Rattle.lists.proofs.Bools.{bit-less, bit-halves}
+use Rattle.lists.proofs.Lists.{every-at, getD-map-in}
 use Rattle.address.specs.Address.{addressRow}
 use Rattle.address.proofs.Laws.{row-key, row-length, row-back}
 use Rattle.esi.proofs.Laws.{length-not-reserved}
-use Rattle.keyed.specs.Keyed.{Rising, Every}
+use Rattle.keyed.specs.Keyed.{Rising}
 use Rattle.keyed.proofs.Keyed as keyed
-use Rattle.rows.specs.Rows.{rowAt, rowsIn, column, rowKey}
-use Rattle.rows.proofs.Rows.{rows-at}
+use Rattle.rows.specs.Rows.{rowsIn, column, rowKey}
+use Rattle.rows.proofs.Rows.{rowAt, rows-at}
 use Rattle.rows.proofs.Columns.{Wide, length-column, rows-column}
 use Rattle.layout.specs.Table.{Entry, entryKey, noEntry, Table, WellFormed}
-use Rattle.layout.specs.Words.{bit, kindOf, standingOf, attributesOf, addressColumn, attributeColumn, entryIn, entriesIn, wordsOf, tableIn, Octets, Valid}
+use Rattle.layout.specs.Words.{kindOf, standingOf, attributesOf, addressColumn, attributeColumn, entryIn, entriesIn, wordsOf, tableIn, Octets, Valid}
 
 -- AN ENTRY whose preference has 16 bits
 abbrev pub Narrow : Entry → Type 0
 Narrow e = e .preference < 65536
-
-bit-back : (b : Bool) → eqb (bit b) 1 ≡ b
-bit-back true = refl
-bit-back false = refl
-
--- a bit as the code makes it a number
-pub bit-of : (b : Bool) → boolByte b ≡ bit b
-bit-of true = refl
-bit-of false = refl
-
-pub bit-less : (b : Bool) → bit b < 2
-bit-less true = omega arith
-bit-less false = omega arith
 
 pub standing-less : (e : Entry) → Narrow e → standingOf e < 131072
 unfolding standingOf
@@ -54,11 +41,9 @@ module _ (e : Entry) (h : Narrow e) where
   pub entry-back : entryIn (addressRow (e .address)) (attributesOf e ∷ []) ≡ e
   unfolding entryIn kindOf standingOf
   entry-back =
-      let a : (e .algorithm * 2 + bit (e .«ac_df»)) / 2 ≡ e .algorithm = omega (arith, bit-less (e .«ac_df»)) in
-      let c : (e .algorithm * 2 + bit (e .«ac_df»)) % 2 ≡ bit (e .«ac_df») = omega (arith, bit-less (e .«ac_df»)) in
-      let p : (e .preference * 2 + bit (e .dp)) / 2 ≡ e .preference = omega (arith, bit-less (e .dp)) in
-      let d : (e .preference * 2 + bit (e .dp)) % 2 ≡ bit (e .dp) = omega (arith, bit-less (e .dp)) in
-      rw (kind-back, standing-back, row-back, a, c, d, p, bit-back (e .«ac_df»), bit-back (e .dp))
+      let k = bit-halves (e .algorithm) (e .«ac_df») in
+      let s = bit-halves (e .preference) (e .dp) in
+      rw (kind-back, standing-back, row-back, k .0, k .1, s .0, s .1)
 
 -- ENTRIES
 entries-back : (es : List Entry) → Every Narrow es → entriesIn (addressColumn es) (attributeColumn es) ≡ es
@@ -73,24 +58,9 @@ entries-narrow [] ws = tt
 entries-narrow (r ∷ rs) [] = tt
 entries-narrow (r ∷ rs) (w ∷ ws) = (omega arith, entries-narrow rs ws)
 
-pub every-at : {A : Type 0} (P : A → Type 0) (l : List A) (i : ℕ) (d : A) → P d → Every P l → P (getD l i d)
-unfolding Every
-every-at P [] i d z h = z
-every-at P (x ∷ l) zero d z h = h .0
-every-at P (x ∷ l) (suc i) d z h = every-at P l i d z (h .1)
-
 pub none-octets : Octets []
 unfolding Every
 none-octets = tt
-
-pub octets-next : (s : List ℕ) (i : ℕ) → i < length s → getD s i 0 < 256 → Octets (take i s) → Octets (take (i + 1) s)
-unfolding Every
-octets-next s i l o h = rw add-one (go s i l o h)
-  where
-    go : (s : List ℕ) (i : ℕ) → i < length s → getD s i 0 < 256 → Octets (take i s) → Octets (take (suc i) s)
-    go [] i l o h = absurd (omega arith)
-    go (x ∷ s) zero l o h = (o, tt)
-    go (x ∷ s) (suc i) l o h = (h .0, go s i (omega arith) o (h .1))
 
 -- ten octets written at the end of 139 words
 pub written-all : (d s : List ℕ) (i : ℕ) → length d ≡ 139 → length s ≡ 10 → 10 ≤ i → i ≤ 10 → paste d 129 s i ≡ take 129 d ++ s
@@ -99,11 +69,6 @@ written-all d s i m n h l =
     rw (e, take-all 10 s (omega arith), drop-of-length-le d {i = 139} (omega arith)) (append-nil (take 129 d ++ s))
 
 -- THE COLUMNS
-getD-map-in : (f : Entry → List ℕ) (l : List Entry) (i : ℕ) → i < length l → getD (map f l) i [] ≡ f (getD l i noEntry)
-getD-map-in f [] i h = absurd (omega arith)
-getD-map-in f (e ∷ l) zero h = refl
-getD-map-in f (e ∷ l) (suc i) h = getD-map-in f l i (omega arith)
-
 -- a row of one word
 row-word : (b : List ℕ) (i w : ℕ) → rowAt 1 b i ≡ w ∷ [] → getD b i 0 ≡ w
 row-word b i w e =
@@ -216,7 +181,7 @@ module _ (b : List ℕ) (h : Valid b) where
     address-row =
         sym (rows-at 1 (length es) b i l)
         ∙ ap (λ (s : List (List ℕ)). getD s i []) rows-addresses
-        ∙ getD-map-in (λ (e : Entry). addressRow (e .address)) es i l
+        ∙ getD-map-in (λ (e : Entry). addressRow (e .address)) es i [] noEntry l
 
     pub address-word : getD b i 0 ≡ getD es i noEntry .address
     unfolding addressRow
@@ -225,7 +190,7 @@ module _ (b : List ℕ) (h : Valid b) where
     attributes-word : getD b (64 + i) 0 ≡ attributesOf (getD es i noEntry)
     attributes-word =
         sym (getD-drop 64 b i 0)
-        ∙ row-word (drop 64 b) i _ (sym (rows-at 1 (length es) (drop 64 b) i l) ∙ ap (λ (s : List (List ℕ)). getD s i []) rows-attributes ∙ getD-map-in (λ (e : Entry). attributesOf e ∷ []) es i l)
+        ∙ row-word (drop 64 b) i _ (sym (rows-at 1 (length es) (drop 64 b) i l) ∙ ap (λ (s : List (List ℕ)). getD s i []) rows-attributes ∙ getD-map-in (λ (e : Entry). attributesOf e ∷ []) es i [] noEntry l)
 
     pub kind-word : getD b (64 + i) 0 / 131072 ≡ kindOf (getD es i noEntry)
     kind-word = ap (λ (w : ℕ). w / 131072) attributes-word ∙ kind-back (getD es i noEntry) (narrow-entry i)

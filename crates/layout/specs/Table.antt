@@ -14,11 +14,12 @@ use mathlib.Core.Bool.{Bool, false, cond}
 use mathlib.Core.List.{List}
 use mathlib.Core.Logic.{_⊎_}
 use lib.ListN.{length, replicate}
+use Rattle.lists.specs.Lists.{Every}
 use Rattle.address.specs.Address.{addressKey}
 use Rattle.esi.specs.Reserved.{reserved}
 use Rattle.community.specs.declared.Election.{Election}
 use Rattle.community.specs.Community.{electionUnder}
-use Rattle.keyed.specs.Keyed.{Rising, Every}
+use Rattle.keyed.specs.Keyed.{Rising}
 
 -- ENTRIES: as the community was read, and nothing else
 pub record Entry : Type 0 where

@@ -1,7 +1,6 @@
 -- How a table lies in the words that a caller lends: a column of 64 addresses, a column of 64 words of attributes, the number of entries, and the ten
 -- octets of the identifier, one to a word; 139 words of 32 bits. The entries stand in rising address order and unused places are zero, so that equal contents are
 -- equal words (document 01, "The table", which leaves the form of a table open).
---   bit b              == a bit as a number
 --   kindOf e           == the algorithm and the AC-DF bit of the entry e as one number
 --   standingOf e       == its preference in 16 bits and the DP bit behind it
 --   attributesOf e     == both as one number: all of the entry but its address
@@ -15,18 +14,14 @@
 --   Packed e w         == the word w is the attributes of an entry with the communities e, whose preference has 16 bits
 use Prim.Native.Nat.{ℕ, _+_, _*_, _/_, _%_, _<_}
 use mathlib.Core.Path.{_≡_}
-use mathlib.Core.Bool.{Bool, cond}
 use mathlib.Core.List.{List, [], _∷_, _++_, map}
 use lib.ListN.{length, getD, drop}
 use lib.Dec.{eqb}
-use Rattle.keyed.specs.Keyed.{Every}
+use Rattle.lists.specs.Lists.{bit, Every}
 use Rattle.rows.specs.Rows.{rowsIn, column}
 use Rattle.address.specs.Address.{addressRow, addressIn}
 use Rattle.community.specs.declared.Election.{Election}
 use Rattle.layout.specs.Table.{Entry, entryOf, Table, WellFormed}
-
-abbrev pub bit : Bool → ℕ
-bit b = cond b 1 0
 
 unfoldable pub kindOf : Entry → ℕ
 kindOf e = e .algorithm * 2 + bit (e .«ac_df»)

@@ -6,13 +6,14 @@ use native.Mathlib.Nat.{div-one, mod-one, mod-lt, mod-eq-of-lt, not-suc-le-zero,
 use native.Mathlib.Numerals.{add-one}
 use native.Mathlib.Omega.{arith}
 use mathlib.Core.Path.{_≡_, refl, ap, ap₂, _∙_, sym, subst}
-use mathlib.Core.Bool.{Bool, true, false, cond, false≢true, and-eq-true-iff, and-false}
+use mathlib.Core.Bool.{true, false, false≢true, and-eq-true-iff, and-false}
 use mathlib.Core.List.{List, [], _∷_, _++_, append-assoc, append-nil}
 use lib.ListN.{length, getD, set, take, drop, replicate, length-append, length-drop, drop-of-length-le}
 use lib.Seq.{take-at, take-append-seam, take-length, length-take-le, drop-append-add, drop-drop, getD-drop, length-paste, paste-suc, take-all, drop-cons}
 use lib.Arith.{mod-mul}
 use lib.Dec.{leb, eqb}
 use borrow.Author.Tests.{eq-eqb, ne-eqb, eqb-true, le-leb, lt-leb, leb-true}
+use Rattle.lists.proofs.Bools.{cond-by, not-true-false}
 use Rattle.octets.specs.Octets.{numberOf, octetsOf, sameOctets, allAre, stored}
 
 -- ---- every element is an octet
@@ -59,11 +60,7 @@ pub same-of : {a b : List ℕ} → a ≡ b → sameOctets a b ≡ true
 same-of {a} e = rw (← e) (same-refl a)
 
 pub same-differ : (a b : List ℕ) → (a ≡ b → ⊥) → sameOctets a b ≡ false
-same-differ a b h = not-equal (sameOctets a b) (λ t. h (same-equal a b t))
-  where
-    not-equal : (t : Bool) → (t ≡ true → ⊥) → t ≡ false
-    not-equal true n = absurd (n refl)
-    not-equal false n = refl
+same-differ a b h = not-true-false (λ t. h (same-equal a b t))
 
 -- ---- runs of one octet
 
@@ -132,11 +129,10 @@ stored-not d at s h = rw (lt-leb (at + length s) (length d) h)
 
 pub length-stored : (d : List ℕ) (at : ℕ) (s : List ℕ) → length (stored d at s) ≡ length d
 unfolding stored
-length-stored d at s = by-test (leb (at + length s) (length d)) (leb-true (at + length s) (length d))
-  where
-    by-test : (t : Bool) → (t ≡ true → at + length s ≤ length d) → length (cond t (take at d ++ s ++ drop (at + length s) d) d) ≡ length d
-    by-test true h = subst (λ (l : List ℕ). length (take at d ++ l ++ drop (at + length s) d) ≡ length d) (take-length s) (length-paste d at s (length s) (h refl) (le-refl (length s)))
-    by-test false h = refl
+length-stored d at s =
+    cond-by (λ (l : List ℕ). length l ≡ length d) (leb (at + length s) (length d))
+    (λ h. subst (λ (l : List ℕ). length (take at d ++ l ++ drop (at + length s) d) ≡ length d) (take-length s) (length-paste d at s (length s) (leb-true (at + length s) (length d) h) (le-refl (length s))))
+    (λ _. refl)
 
 -- a store right after a prefix
 pub stored-after : (p l s : List ℕ) (n : ℕ) → length p ≡ n → length s ≤ length l → stored (p ++ l) n s ≡ p ++ s ++ drop (length s) l

@@ -10,10 +10,11 @@ use lib.ListN.{length, getD, set, take, replicate, length-map}
 use lib.Seq.{take-suc}
 use lib.Dec.{eqb}
 use borrow.Author.Tests.{eq-eqb, ne-eqb, eqb-false, lt-ltb, le-ltb}
+use Rattle.lists.proofs.Bools.{or-left, or-right}
+use Rattle.lists.proofs.Numbers.{either}
 use Rattle.address.specs.Address.{addressKey}
 use Rattle.keyed.specs.Keyed.{Rising, has, rank}
-use Rattle.keyed.proofs.Keyed.{either, Present, present-of, has-below}
-use Rattle.keyed.proofs.Order.{or-left, or-right}
+use Rattle.keyed.proofs.Keyed.{Present, present-of, has-below}
 use Rattle.rows.specs.Rows.{foundIn}
 use Rattle.rows.specs.declared.Found.the-variants.{At, Missing}
 use Rattle.rows.proofs.Places.{found-at, found-missing, at-lt}

@@ -1,14 +1,14 @@
 -- Laws of `specs/Returning.antt`: the case of its definition that each return is, and that the set of the other places holds the other routes. Assumes nothing.
-use Prim.Native.Nat.{ℕ, zero, suc, _+_, _*_, _/_, _%_, _^_, _≤_, _<_, min}
+use Prim.Native.Nat.{ℕ, zero, suc, _/_, _%_, _^_, _≤_, _<_, min}
 use native.Mathlib.Nat.{not-suc-le-zero}
-use native.Mathlib.Decide.{ℕ-discrete}
 use native.Mathlib.Omega.{arith}
-use mathlib.Core.Path.{_≡_, refl, ap, _∙_, sym, subst}
+use mathlib.Core.Path.{_≡_, ap, _∙_, sym, subst}
 use mathlib.Core.Bool.{Bool, true, false, _||_, or-true, and-false}
 use mathlib.Core.List.{List, [], _∷_}
-use lib.ListN.{length, getD, set, replicate, length-replicate, length-set, length-map}
+use lib.ListN.{length, getD, set, replicate, length-replicate, getD-replicate, length-set, length-map}
 use lib.Dec.{eqb}
 use borrow.Author.Tests.{eq-eqb, ne-eqb}
+use Rattle.lists.proofs.Bools.{bit-halves, one-of-two}
 use Rattle.address.specs.Address.{addressKey, isZero}
 use Rattle.keyed.specs.Keyed.{Rising, cut}
 use Rattle.keyed.proofs.Keyed as keyed
@@ -17,7 +17,7 @@ use Rattle.rows.specs.Rows.{foundIn}
 use Rattle.rows.specs.declared.Found.the-variants.{At, Missing}
 use Rattle.rows.proofs.Places.{found-at, found-missing, at-lt}
 use Rattle.layout.specs.Table.{Entry, entryKey, noEntry}
-use Rattle.layout.specs.Words.{bit, standingOf}
+use Rattle.layout.specs.Words.{standingOf}
 use Rattle.places.specs.Places.{places, setOf, picked, withoutPlace}
 use Rattle.places.proofs.Laws.{places-none, places-walk}
 use Rattle.places.proofs.Flags.{setOf-lt, picked-places, picked-all, withoutPlace-set}
@@ -26,11 +26,6 @@ use Rattle.winner.specs.Winner.{better, entriesAt}
 use Rattle.returning.specs.Returning.{others, allUnder, reaches, sent, besideReference, advertised, returningOf}
 
 -- THE OTHER ROUTES
-true-at : (n i : ℕ) → i < n → getD (replicate n true) i false ≡ true
-true-at zero i h = absurd (not-suc-le-zero h)
-true-at (suc n) zero h = refl
-true-at (suc n) (suc i) h = true-at n i (omega arith)
-
 picked-cut : {A : Type 0} (l : List A) (i : ℕ) → i < length l → picked (set (replicate (length l) true) i false) l ≡ cut l i
 unfolding picked cut
 picked-cut [] i h = absurd (not-suc-le-zero h)
@@ -58,7 +53,7 @@ module _ (es : List Entry) (short : length es ≤ 64) (rising : Rising entryKey 
       let l = at-lt entryKey (addressKey a) es 1 noEntry rising i f in
       let bs = replicate (length es) true in
       others-of (set bs i false) s (length-set bs i false ∙ length-replicate (length es) true)
-      (e ∙ ap (λ (x : ℕ). withoutPlace x i) is-all ∙ withoutPlace-set bs i (omega arith) (true-at (length es) i l))
+      (e ∙ ap (λ (x : ℕ). withoutPlace x i) is-all ∙ withoutPlace-set bs i (omega arith) (getD-replicate (length es) i true false l))
       (picked-cut es i l ∙ sym (keyed.remove-present entryKey (addressKey a) es noEntry (keyed.present-of entryKey (addressKey a) es 1 noEntry rising (p .0)) ∙ ap (cut es) (p .1)))
 
 -- A WALK over the routes of a set
@@ -93,11 +88,7 @@ some-at es s h n e =
 -- WHAT IS SENT beside the other routes
 standing-halves : (e : Entry) → (standingOf e / 2 ≡ e .preference) × (eqb (standingOf e % 2) 1 ≡ e .dp)
 unfolding standingOf
-standing-halves e = go (e .dp)
-  where
-    go : (b : Bool) → ((e .preference * 2 + bit b) / 2 ≡ e .preference) × (eqb ((e .preference * 2 + bit b) % 2) 1 ≡ b)
-    go true = (omega arith, eq-eqb ((e .preference * 2 + 1) % 2) 1 (omega arith))
-    go false = (omega arith, ne-eqb ((e .preference * 2 + 0) % 2) 1 (λ f. omega arith))
+standing-halves e = bit-halves (e .preference) (e .dp)
 
 module _ (os : List Entry) (g p : ℕ) where
   pub own-clear : (d : Bool) → d ≡ false → sent 0 p d ≡ advertised g p d os
@@ -144,11 +135,7 @@ module _ (l : List Entry) (a g p : ℕ) (d : Bool) where
 
   module _ (h : 2 ≤ g) (k : g ≤ 3) where
     usable : (eqb g 2 || eqb g 3) ≡ true
-    usable = go (ℕ-discrete g 2)
-      where
-        go : Dec (g ≡ 2) → (eqb g 2 || eqb g 3) ≡ true
-        go (yes e) = rw (eq-eqb g 2 e)
-        go (no n) = let e : g ≡ 3 = omega (arith, n) in rw (ne-eqb g 2 n, eq-eqb g 3 e)
+    usable = one-of-two 2 g h k
 
     pub zero-address : isZero a ≡ true → sent 6 0 false ≡ returningOf l a g p d
     unfolding returningOf

@@ -1,13 +1,15 @@
 -- Laws of `specs/Route.antt`: which check gives the number, what an accepted route has, and that a written route reads back. Assumes nothing.
 use Prim.Native.Nat.{ℕ, suc, _+_, _≤_, _<_, _^_}
 use native.Mathlib.Omega.{arith}
-use mathlib.Core.Path.{_≡_, refl, ap, ap₂, sym, _∙_, subst}
+use mathlib.Core.Path.{_≡_, refl, ap, ap₂, sym, _∙_}
 use mathlib.Core.Bool.{Bool, true, false, cond, not, _||_}
 use mathlib.Core.List.{List, [], _∷_, _++_, append-assoc}
 use lib.ListN.{length, getD, take, drop, replicate, length-append, length-drop}
 use lib.Seq.{take-at, take-all, drop-at, drop-drop, getD-drop, length-take-le}
-use lib.Dec.{ltb, eqb}
-use borrow.Author.Tests.{eq-eqb, ne-eqb, eqb-true, eqb-false, le-ltb, lt-ltb, ltb-true, ltb-false}
+use lib.Dec.{eqb}
+use borrow.Author.Tests.{not-false, eq-eqb, ne-eqb, eqb-true, eqb-false, le-ltb, lt-ltb, ltb-true}
+use Rattle.lists.proofs.Bools.{eq-not, ne-not, not-eq, or-left}
+use Rattle.lists.proofs.Checks.{refused-at, refused-none, passed, each}
 use Rattle.octets.specs.Octets.{numberOf, octetsOf, stored}
 use Rattle.octets.proofs.Laws.{elements, take-elements, length-octets, number-octets-small, stored-front, stored-all, stored-stored}
 use Rattle.address.specs.Address.{isZero}
@@ -18,6 +20,26 @@ use Rattle.route.specs.declared.RouteRead.{RouteRead}
 use Rattle.route.specs.declared.Checked.{Checked}
 use Rattle.route.specs.declared.Checked.the-variants.{Originator, Refused}
 
+-- WHAT THE PLACE OF EVERY ROUTE TELLS
+module _ (s : List ℕ) where
+  fault-total : (length s ≡ 25 → ⊥) → Fault s 1 (placeOf 1 s)
+  unfolding placeOf
+  fault-total n = rw (ne-eqb (length s) 25 n) (total refl refl n)
+
+  fault-length : (not (eqb (length s) 25) || not (eqb (getD s 1 0) 23)) ≡ true → Fault s 1 (placeOf 1 s)
+  unfolding placeOf
+  fault-length = go (eqb (length s) 25) refl
+    where
+      go : (b : Bool) → eqb (length s) 25 ≡ b → (not b || not (eqb (getD s 1 0) 23)) ≡ true → Fault s 1 (cond b 1 (length s))
+      go true e h = lengthOctet refl refl (eqb-true _ _ e) (not-eq h)
+      go false e h = total refl refl (eqb-false _ _ e)
+
+  pub route-fault : Fault s (routeNumber s) (routePlace s)
+  unfolding routeNumber placeOf routeEsi routeAddress
+  route-fault =
+      each (λ (n : ℕ). Fault s n (placeOf n s)) _
+      (λ h. fault-total (λ e. omega (arith, ltb-true (length s) 21 h)), (λ h. type refl refl (not-eq h), (λ h. bits refl refl (not-eq h), (fault-length, (identifier refl refl, (zeroAddress refl refl, none refl refl))))))
+
 -- WHAT THE CHECK ANSWERS
 module _ (s : List ℕ) where
   abbrev pub Answers : Checked → Type 0
@@ -27,11 +49,11 @@ module _ (s : List ℕ) where
       × ((checkedPlace c ≡ routePlace s)
       × ((checkedAddress c ≡ routeValue s) × Fault s (checkedNumber c) (checkedPlace c))))
 
-  refused : (n p : ℕ) → suc n ≡ routeNumber s → p ≡ placeOf (suc n) s → Fault s (suc n) p → Answers (Refused (suc n) p)
+  refused : (n p : ℕ) → suc n ≡ routeNumber s → p ≡ placeOf (suc n) s → Answers (Refused (suc n) p)
   unfolding routeChecked routeValue
-  refused n p e q f =
+  refused n p e q =
       let no = ne-eqb (suc n) 0 (λ z. omega arith) in
-      (rw (← e, q, no), (e, (q ∙ ap (λ (m : ℕ). placeOf m s) e, (rw (← e, no), f))))
+      (rw (← e, q, no), (e, (q ∙ ap (λ (m : ℕ). placeOf m s) e, (rw (← e, no), rw (q, e) (route-fault s)))))
 
   accepted : (a : ℕ) → a ≡ routeAddress s → 0 ≡ routeNumber s → Answers (Originator a)
   unfolding routeChecked routeValue placeOf
@@ -39,111 +61,66 @@ module _ (s : List ℕ) where
 
   wrong-total : (length s ≡ 25 → ⊥) → 1 ≡ routeNumber s → Answers (Refused 1 (length s))
   unfolding placeOf
-  wrong-total n e = refused 0 (length s) e (rw (ne-eqb (length s) 25 n)) (total refl refl n)
+  wrong-total n e = refused 0 (length s) e (rw (ne-eqb (length s) 25 n))
 
   pub short : length s < 21 → Answers (Refused 1 (length s))
   unfolding routeNumber
-  short h = wrong-total (λ e. omega arith) (rw (lt-ltb _ _ h))
+  short h = wrong-total (λ e. omega arith) (refused-at 0 _ tt (lt-ltb _ _ h))
 
   module _ (l : 21 ≤ length s) where
     pub not-type : (getD s 0 0 ≡ 4 → ⊥) → Answers (Refused 2 0)
     unfolding routeNumber placeOf
-    not-type n = refused 1 0 (rw (le-ltb _ _ l, ne-eqb _ _ n)) refl (type refl refl n)
+    not-type n = refused 1 0 (refused-at 1 _ (le-ltb _ _ l, tt) (ne-not n)) refl
 
     module _ (t : getD s 0 0 ≡ 4) where
       pub not-bits : (getD s 20 0 ≡ 32 → ⊥) → Answers (Refused 3 20)
       unfolding routeNumber placeOf
-      not-bits n = refused 2 20 (rw (le-ltb _ _ l, eq-eqb _ _ t, ne-eqb _ _ n)) refl (bits refl refl n)
+      not-bits n = refused 2 20 (refused-at 2 _ (le-ltb _ _ l, (eq-not t, tt)) (ne-not n)) refl
 
       module _ (b : getD s 20 0 ≡ 32) where
         pub not-total : (length s ≡ 25 → ⊥) → Answers (Refused 1 (length s))
         unfolding routeNumber
-        not-total n = wrong-total n (rw (le-ltb _ _ l, eq-eqb _ _ t, eq-eqb _ _ b, ne-eqb _ _ n))
+        not-total n = wrong-total n (refused-at 3 _ (le-ltb _ _ l, (eq-not t, (eq-not b, tt))) (rw (ne-not n)))
 
         module _ (w : length s ≡ 25) where
           pub not-length : (getD s 1 0 ≡ 23 → ⊥) → Answers (Refused 1 1)
           unfolding routeNumber placeOf
           not-length n =
-              refused 0 1 (rw (le-ltb _ _ l, eq-eqb _ _ t, eq-eqb _ _ b, eq-eqb _ _ w, ne-eqb _ _ n)) (rw (eq-eqb (length s) 25 w)) (lengthOctet refl refl w n)
+              refused 0 1 (refused-at 3 _ (le-ltb _ _ l, (eq-not t, (eq-not b, tt))) (rw (eq-not w) (ne-not n))) (rw (eq-eqb (length s) 25 w))
 
           module _ (m : getD s 1 0 ≡ 23) where
-            number-last : routeNumber s ≡ cond (reserved (routeEsi s)) 4 (cond (isZero (routeAddress s)) 6 0)
-            unfolding routeNumber
-            number-last = rw (le-ltb _ _ l, eq-eqb _ _ t, eq-eqb _ _ b, eq-eqb _ _ w, eq-eqb _ _ m)
-
             pub reserved-esi : reserved (take 10 (drop 10 s)) ≡ true → Answers (Refused 4 10)
-            unfolding routeEsi placeOf
-            reserved-esi r = refused 3 10 (sym (number-last ∙ rw r)) refl (identifier refl refl r)
+            unfolding routeNumber routeEsi placeOf
+            reserved-esi r = refused 3 10 (refused-at 4 _ (le-ltb _ _ l, (eq-not t, (eq-not b, (rw (eq-not w) (eq-not m), tt)))) r) refl
 
             module _ (r : reserved (take 10 (drop 10 s)) ≡ false) (a : ℕ) (q : a ≡ numberOf (elements 4 21 s)) where
-              is-field : a ≡ numberOf (take 4 (drop 21 s))
-              is-field = q ∙ ap numberOf (sym (take-elements 4 21 s (omega arith)))
-
               is-address : a ≡ routeAddress s
               unfolding routeAddress
-              is-address = is-field
+              is-address = q ∙ ap numberOf (sym (take-elements 4 21 s (omega arith)))
 
               pub zero-address : isZero a ≡ true → Answers (Refused 6 21)
-              unfolding routeEsi placeOf
-              zero-address z = refused 5 21 (sym (number-last ∙ rw (r, ← is-address, z))) refl (zeroAddress refl refl (ap isZero (sym is-field) ∙ z))
+              unfolding routeNumber routeEsi placeOf
+              zero-address z =
+                  refused 5 21 (refused-at 5 _ (le-ltb _ _ l, (eq-not t, (eq-not b, (rw (eq-not w) (eq-not m), (r, tt))))) (rw (← is-address) z)) refl
 
               pub originator : isZero a ≡ false → Answers (Originator a)
-              unfolding routeEsi
-              originator z = accepted a is-address (sym (number-last ∙ rw (r, ← is-address, z)))
+              unfolding routeNumber routeEsi
+              originator z =
+                  accepted a is-address (refused-none _ (le-ltb _ _ l, (eq-not t, (eq-not b, (rw (eq-not w) (eq-not m), (r, (rw (← is-address) z, tt)))))))
 
--- what the place of every route tells
-module _ (s : List ℕ) where
-  told-fault : (c : Checked) → Answers s c → Fault s (routeNumber s) (routePlace s)
-  told-fault c a = subst (λ (n : ℕ). Fault s n (routePlace s)) (a .1 .0) (subst (Fault s (checkedNumber c)) (a .1 .1 .0) (a .1 .1 .1 .1))
-
-  by-tests : (short? type? bits? total? octet? reserved? zero? : Bool) → ltb (length s) 21 ≡ short? → eqb (getD s 0 0) 4 ≡ type? → eqb (getD s 20 0) 32 ≡ bits?
-      → eqb (length s) 25 ≡ total? → eqb (getD s 1 0) 23 ≡ octet? → reserved (take 10 (drop 10 s)) ≡ reserved? → isZero (numberOf (elements 4 21 s)) ≡ zero?
-      → Fault s (routeNumber s) (routePlace s)
-  by-tests true b c d e f g h i j k l m n = told-fault _ (short s (ltb-true _ _ h))
-  by-tests false false c d e f g h i j k l m n = told-fault _ (not-type s (ltb-false _ _ h) (eqb-false _ _ i))
-  by-tests false true false d e f g h i j k l m n = told-fault _ (not-bits s (ltb-false _ _ h) (eqb-true _ _ i) (eqb-false _ _ j))
-  by-tests false true true false e f g h i j k l m n = told-fault _ (not-total s (ltb-false _ _ h) (eqb-true _ _ i) (eqb-true _ _ j) (eqb-false _ _ k))
-  by-tests false true true true false f g h i j k l m n =
-      told-fault _ (not-length s (ltb-false _ _ h) (eqb-true _ _ i) (eqb-true _ _ j) (eqb-true _ _ k) (eqb-false _ _ l))
-  by-tests false true true true true true g h i j k l m n =
-      told-fault _ (reserved-esi s (ltb-false _ _ h) (eqb-true _ _ i) (eqb-true _ _ j) (eqb-true _ _ k) (eqb-true _ _ l) m)
-  by-tests false true true true true false true h i j k l m n =
-      told-fault _ (zero-address s (ltb-false _ _ h) (eqb-true _ _ i) (eqb-true _ _ j) (eqb-true _ _ k) (eqb-true _ _ l) m _ refl n)
-  by-tests false true true true true false false h i j k l m n =
-      told-fault _ (originator s (ltb-false _ _ h) (eqb-true _ _ i) (eqb-true _ _ j) (eqb-true _ _ k) (eqb-true _ _ l) m _ refl n)
-
-  pub route-fault : Fault s (routeNumber s) (routePlace s)
-  route-fault = by-tests _ _ _ _ _ _ _ refl refl refl refl refl refl refl
-
--- what an accepted route has: each check that is passed, from the number alone
-passed : (b : Bool) (n m : ℕ) → cond b (suc n) m ≡ 0 → (b ≡ false) × (m ≡ 0)
-passed true n m h = absurd (omega arith)
-passed false n m h = (refl, h)
-
-not-false : (b : Bool) → not b ≡ false → b ≡ true
-not-false true h = refl
-not-false false h = sym h
-
-or-false : (a b : Bool) → (a || b) ≡ false → (a ≡ false) × (b ≡ false)
-or-false true b h = (h, cc)
-or-false false b h = (refl, h)
-
+-- WHAT AN ACCEPTED ROUTE HAS, from the number alone
 module _ (s : List ℕ) (h : routeNumber s ≡ 0) where
-  rest : cond {A = ℕ} (not (eqb (length s) 25) || not (eqb (getD s 1 0) 23)) 1 (cond (reserved (routeEsi s)) 4 (cond (isZero (routeAddress s)) 6 0)) ≡ 0
-  unfolding routeNumber
-  rest = passed (not (eqb (getD s 20 0) 32)) 2 _ (passed (not (eqb (getD s 0 0) 4)) 1 _ (passed (ltb (length s) 21) 0 _ h .1) .1) .1
-
   pub route-length : length s ≡ 25
-  route-length = eqb-true _ _ (not-false _ (or-false _ _ (passed _ 0 _ rest .0) .0))
-
-  last : cond {A = ℕ} (reserved (routeEsi s)) 4 (cond (isZero (routeAddress s)) 6 0) ≡ 0
-  last = passed (not (eqb (length s) 25) || not (eqb (getD s 1 0) 23)) 0 _ rest .1
+  unfolding routeNumber
+  route-length = eqb-true _ _ (not-false _ (or-left _ _ (passed _ refl h .1 .1 .1 .0)))
 
   pub route-esi : reserved (routeEsi s) ≡ false
-  route-esi = passed _ 3 _ last .0
+  unfolding routeNumber
+  route-esi = passed _ refl h .1 .1 .1 .1 .0
 
   pub route-address : isZero (routeAddress s) ≡ false
-  route-address = passed _ 5 _ (passed (reserved (routeEsi s)) 3 _ last .1) .0
+  unfolding routeNumber
+  route-address = passed _ refl h .1 .1 .1 .1 .1 .0
 
   pub length-esi : length (routeEsi s) ≡ 10
   length-esi = length-not-reserved (routeEsi s) route-esi
@@ -247,10 +224,10 @@ module _ (d e : List ℕ) (a : ℕ) (ld : length d ≡ 8) (re : reserved e ≡ f
       ∙ number-octets-small 4 a fa
 
   number-of : routeNumber o ≡ 0
-  unfolding routeOctets
+  unfolding routeNumber routeOctets
   number-of =
-      number-last o (omega (arith, length-octets-route)) refl bits-of length-octets-route refl
-      ∙ rw (esi-of, re, address-of, za)
+      let l = length-octets-route in
+      sym (refused-none _ (le-ltb (length o) 21 (omega arith), (refl, (eq-not bits-of, (rw (eq-not l), (rw esi-of re, (rw address-of za, tt)))))))
 
   reads-back : readRoute o ≡ readAs 0 0 d e a
   unfolding readRoute
@@ -290,28 +267,28 @@ module _ (b d e : List ℕ) (a : ℕ) where
 
   pub wrote-no-distinguisher : (length d ≡ 8 → ⊥) → Wrote 1 b
   unfolding writeRouteNumber
-  wrote-no-distinguisher n = not-written 0 (rw (ne-eqb _ _ n))
+  wrote-no-distinguisher n = not-written 0 (refused-at 0 _ tt (ne-not n))
 
   module _ (ld : length d ≡ 8) where
     pub wrote-reserved : reserved e ≡ true → Wrote 4 b
     unfolding writeRouteNumber
-    wrote-reserved r = not-written 3 (rw (eq-eqb _ _ ld, r))
+    wrote-reserved r = not-written 3 (refused-at 1 _ (eq-not ld, tt) r)
 
     module _ (re : reserved e ≡ false) where
       pub wrote-zero : isZero a ≡ true → Wrote 6 b
       unfolding writeRouteNumber
-      wrote-zero z = not-written 5 (rw (eq-eqb _ _ ld, re, z))
+      wrote-zero z = not-written 5 (refused-at 2 _ (eq-not ld, (re, tt)) z)
 
       module _ (za : isZero a ≡ false) where
         pub wrote-short : length b < 25 → Wrote 14 b
         unfolding writeRouteNumber
-        wrote-short h = not-written 13 (rw (eq-eqb _ _ ld, re, za, lt-ltb _ _ h))
+        wrote-short h = not-written 13 (refused-at 3 _ (eq-not ld, (re, (za, tt))) (lt-ltb _ _ h))
 
         pub wrote : (fa : a < 256 ^ 4) (lb : 25 ≤ length b) {v p q r t l : List ℕ} → v ≡ octetsOf 4 a → p ≡ stored b 0 (4 ∷ 23 ∷ []) → q ≡ stored p 2 d → r ≡ stored q 10 e → t ≡ stored r 20 (32 ∷ []) → l ≡ stored t 21 v → Wrote 0 l
         unfolding writeRouteNumber routeWritten
         wrote fa lb {l = l} hv hp hq hr ht hl =
             let f : l ≡ routeOctets d e a ++ drop 25 b = stored-route d e a ld re za fa b lb hv hp hq hr ht hl in
-            let n : 0 ≡ writeRouteNumber d e a (length b) = rw (eq-eqb _ _ ld, re, za, le-ltb _ _ lb) in (
+            let n : 0 ≡ writeRouteNumber d e a (length b) = refused-none _ (eq-not ld, (re, (za, (le-ltb _ _ lb, tt)))) in (
               n,
               (
                 f ∙ rw (← n),

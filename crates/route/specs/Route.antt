@@ -18,9 +18,10 @@
 use Prim.Native.Nat.{ℕ}
 use mathlib.Core.Path.{_≡_}
 use mathlib.Core.Bool.{true, cond, not, _||_}
-use mathlib.Core.List.{List, _∷_, _++_}
+use mathlib.Core.List.{List, [], _∷_, _++_}
 use lib.ListN.{length, getD, take, drop, replicate}
 use lib.Dec.{ltb, eqb}
+use Rattle.lists.specs.Checks.{firstRefusal}
 use Rattle.octets.specs.Octets.{numberOf, octetsOf}
 use Rattle.address.specs.Address.{isZero}
 use Rattle.esi.specs.Reserved.{reserved}
@@ -40,13 +41,15 @@ routeAddress s = numberOf (take 4 (drop 21 s))
 -- the checks, in their order
 unfoldable pub routeNumber : List ℕ → ℕ
 routeNumber s =
-    cond (ltb (length s) 21) 1
-    (cond (not (eqb (getD s 0 0) 4)) 2
-    (cond (not (eqb (getD s 20 0) 32)) 3
-    (cond (not (eqb (length s) 25) || not (eqb (getD s 1 0) 23)) 1
-    (cond (reserved (routeEsi s)) 4
-    (cond (isZero (routeAddress s)) 6
-    0)))))
+    firstRefusal (
+    (ltb (length s) 21, 1)
+    ∷ (not (eqb (getD s 0 0) 4), 2)
+    ∷ (not (eqb (getD s 20 0) 32), 3)
+    ∷ (not (eqb (length s) 25) || not (eqb (getD s 1 0) 23), 1)
+    ∷ (reserved (routeEsi s), 4)
+    ∷ (isZero (routeAddress s), 6)
+    ∷ []
+    )
 
 -- for 1 the number of octets where that is wrong, else 1, the length octet; 0 for 2, 20 for 3, 10 for 4, 21 for 6; 0 if accepted
 unfoldable pub placeOf : ℕ → List ℕ → ℕ
@@ -104,11 +107,13 @@ routeOctets d e a = 4 ∷ 23 ∷ d ++ (e ++ 32 ∷ octetsOf 4 a)
 
 unfoldable pub writeRouteNumber : List ℕ → List ℕ → ℕ → ℕ → ℕ
 writeRouteNumber d e a n =
-    cond (not (eqb (length d) 8)) 1
-    (cond (reserved e) 4
-    (cond (isZero a) 6
-    (cond (ltb n 25) 14
-    0)))
+    firstRefusal (
+    (not (eqb (length d) 8), 1)
+    ∷ (reserved e, 4)
+    ∷ (isZero a, 6)
+    ∷ (ltb n 25, 14)
+    ∷ []
+    )
 
 unfoldable pub routeWritten : List ℕ → List ℕ → List ℕ → ℕ → List ℕ
 routeWritten b d e a = cond (eqb (writeRouteNumber d e a (length b)) 0) (routeOctets d e a ++ drop 25 b) b

@@ -6,7 +6,9 @@ use mathlib.Core.Path.{_≡_, refl, ap, sym, _∙_}
 use mathlib.Core.List.{List, [], _∷_, _++_, append-assoc}
 use lib.ListN.{length, getD, set, take, drop, replicate, length-append, length-drop, length-replicate, length-set, replicate-append-replicate, take-append-drop}
 use lib.Seq.{length-take-le, take-at, drop-at, drop-cons}
-use Rattle.keyed.specs.Keyed.{spliced, cut, Every}
+use Rattle.lists.specs.Lists.{Every}
+use Rattle.lists.proofs.Lists.{every-take, every-drop, every-in}
+use Rattle.keyed.specs.Keyed.{spliced, cut}
 use Rattle.keyed.proofs.Keyed as keyed
 use Rattle.rows.specs.Rows.{rowsIn, flat, column, inserted, removed}
 use Rattle.rows.proofs.Moved.{words-split}
@@ -14,24 +16,6 @@ use Rattle.rows.proofs.Moved.{words-split}
 -- every row has k words
 abbrev pub Wide : ℕ → List (List ℕ) → Type 0
 Wide k l = Every (λ (r : List ℕ). length r ≡ k) l
-
-pub wide-take : (k n : ℕ) (l : List (List ℕ)) → Wide k l → Wide k (take n l)
-unfolding Every
-wide-take k zero l h = tt
-wide-take k (suc n) [] h = tt
-wide-take k (suc n) (r ∷ l) h = (h .0, wide-take k n l (h .1))
-
-pub wide-drop : (k n : ℕ) (l : List (List ℕ)) → Wide k l → Wide k (drop n l)
-unfolding Every
-wide-drop k zero l h = h
-wide-drop k (suc n) [] h = tt
-wide-drop k (suc n) (r ∷ l) h = wide-drop k n l (h .1)
-
-wide-at : (k : ℕ) (l : List (List ℕ)) (i : ℕ) → Wide k l → i < length l → length (getD l i []) ≡ k
-unfolding Every
-wide-at k [] i h n = absurd (omega arith)
-wide-at k (r ∷ l) zero h n = h .0
-wide-at k (r ∷ l) (suc i) h n = wide-at k l i (h .1) (omega arith)
 
 pub flat-append : (a b : List (List ℕ)) → flat (a ++ b) ≡ flat a ++ flat b
 unfolding flat
@@ -126,8 +110,8 @@ module _ (k c : ℕ) (l : List (List ℕ)) (x : List ℕ) (wide : Wide k l) wher
       let s : (flat l ++ replicate ((c - n) * k) 0) ++ x ≡ a ++ (b ++ (replicate k 0 ++ (r ++ x))) =
       rw (halves at, z, zeros-split k (c - suc n))
       (append-assoc (a ++ b) (replicate k 0 ++ r) x ∙ append-assoc a b ((replicate k 0 ++ r) ++ x) ∙ ap (λ (q : List ℕ). a ++ (b ++ q)) (append-assoc (replicate k 0) r x)) in
-      let la : length a ≡ at * k = length-flat k (take at l) (wide-take k at l wide) ∙ ap (λ (i : ℕ). i * k) (length-take-le at l h) in
-      let lb : length b ≡ (n - at) * k = length-flat k (drop at l) (wide-drop k at l wide) ∙ ap (λ (i : ℕ). i * k) (length-drop at l) in
+      let la : length a ≡ at * k = length-flat k (take at l) (every-take _ at l wide) ∙ ap (λ (i : ℕ). i * k) (length-take-le at l h) in
+      let lb : length b ≡ (n - at) * k = length-flat k (drop at l) (every-drop _ at l wide) ∙ ap (λ (i : ℕ). i * k) (length-drop at l) in
       let e : flat (take at l ++ key ∷ drop at l) ≡ a ++ (key ++ b) = flat-append (take at l) (key ∷ drop at l) ∙ ap (a ++_) (flat-cons key (drop at l)) in
       ap (inserted n at key) s
       ∙ inserted-parts k n at a b (r ++ x) la key (replicate k 0) lk (length-replicate k 0) h lb
@@ -145,11 +129,11 @@ module _ (k c : ℕ) (l : List (List ℕ)) (x : List ℕ) (wide : Wide k l) wher
       let split : flat l ≡ a ++ (row ++ b) = halves at ∙ ap (a ++_) (ap flat (drop-cons l at [] h) ∙ flat-cons row (drop (suc at) l)) in
       let s : (flat l ++ r) ++ x ≡ a ++ (row ++ (b ++ (r ++ x))) =
       rw split (append-assoc (a ++ (row ++ b)) r x ∙ append-assoc a (row ++ b) (r ++ x) ∙ ap (a ++_) (append-assoc row b (r ++ x))) in
-      let la : length a ≡ at * k = length-flat k (take at l) (wide-take k at l wide) ∙ ap (λ (i : ℕ). i * k) (length-take-le at l (omega arith)) in
+      let la : length a ≡ at * k = length-flat k (take at l) (every-take _ at l wide) ∙ ap (λ (i : ℕ). i * k) (length-take-le at l (omega arith)) in
       let f1 : n - suc at ≡ n - 1 - at = omega arith in
-      let lb : length b ≡ (n - 1 - at) * k = length-flat k (drop (suc at) l) (wide-drop k (suc at) l wide) ∙ ap (λ (i : ℕ). i * k) (length-drop (suc at) l ∙ f1) in
+      let lb : length b ≡ (n - 1 - at) * k = length-flat k (drop (suc at) l) (every-drop _ (suc at) l wide) ∙ ap (λ (i : ℕ). i * k) (length-drop (suc at) l ∙ f1) in
       ap (removed k n at) s
-      ∙ removed-parts k n at a b (r ++ x) la row (wide-at k l at wide h) h lb
+      ∙ removed-parts k n at a b (r ++ x) la row (every-in _ l at [] wide h) h lb
       ∙ sym (rw (flat-append (take at l) (drop (suc at) l), g, zeros-split k (c - n))
       (append-assoc (a ++ b) (replicate k 0 ++ r) x ∙ append-assoc a b ((replicate k 0 ++ r) ++ x) ∙ ap (λ (q : List ℕ). a ++ (b ++ q)) (append-assoc (replicate k 0) r x)))
 

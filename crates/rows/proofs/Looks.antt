@@ -6,7 +6,7 @@ use mathlib.Core.Path.{_≡_, refl, ap, _∙_}
 use mathlib.Core.List.{List, [], _∷_}
 use lib.ListN.{length, getD}
 use borrow.Author.Tests.{lt-ltb, le-ltb}
-use Rattle.keyed.proofs.Keyed.{either}
+use Rattle.lists.proofs.Numbers.{either}
 use Rattle.rows.specs.Rows.{middle, looked, firstLook, looksFor}
 
 pub first-lt : (first n : ℕ) → 0 < n → firstLook first n < n

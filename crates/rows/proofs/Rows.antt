@@ -8,10 +8,14 @@ use mathlib.Core.List.{List, [], _++_, map}
 use lib.ListN.{length, getD, take, drop, length-append, length-drop, length-replicate, length-map, take-append-drop, List·getD-map}
 use lib.Seq.{length-take-le, take-at, drop-at, take-append-le, drop-append-le, drop-drop}
 use Rattle.keyed.proofs.Keyed as keyed
-use Rattle.rows.specs.Rows.{rowAt, rowsIn, rowKey, inserted, removed}
+use Rattle.rows.specs.Rows.{rowsIn, rowKey, inserted, removed}
 use Rattle.rows.proofs.Moved.{words-split, words-le, words-last}
 
 -- ROWS
+-- the row at place i of the words s
+abbrev pub rowAt : ℕ → List ℕ → ℕ → List ℕ
+rowAt k s i = take k (drop (i * k) s)
+
 pub row-fits : (k n i : ℕ) → i < n → i * k + k ≤ n * k
 row-fits k n i h = omega (arith, suc-mul i k, mul-le-mul-right k h)
 

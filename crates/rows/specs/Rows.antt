@@ -1,12 +1,9 @@
--- Rows of words in rising order: n rows of k words each at the start of a run of words, high word first. A row is its own key. No rule of a document
--- stands here: the tables of document 01 and document 02 lie in such rows (document 02, M-104: halve the range).
---   rowAt k s i               == the row at place i of the words s
+-- Rows of words: n rows of k words each at the start of a run of words. Where rows are searched they rise, high word first, and a row is its own key. No
+-- rule of a document stands here: the tables of document 01 and document 02 lie in such rows (document 02, M-104: halve the range).
 --   rowsIn k n s              == the first n rows of the words s
 --   flat l                    == the words of the rows l, one row after the other
 --   column k c l              == a column of c places for rows of k words that holds the rows l: their words, then zeros
 --   rowKey r                  == the number that the words of a row make in base 2^32, high word first
---   Words s                   == every word of s is below 2^32
---   wordsOrder a b            == how a stands to b by the first words that differ
 --   keyOrder m n              == how the number m stands to the number n
 --   foundIn key m l           == the place of the key m in the list l, or the place at which it would stand
 --   middle lo hi              == the place in the middle between the places lo and hi
@@ -17,9 +14,9 @@
 --   looksFor first m ks       == which places a search for the key m compares, the place `first` before all others
 --   opened k n at s           == the words s with the rows from place `at` to place n one row further right, the row `at` itself as it was
 --   closed k n at s           == the words s with the rows after place `at` of n rows one row further left, the last row as it was
---   inserted n at key s       == the words s with the row `key` before place `at` of n rows; words after the n + 1 rows stay
+--   inserted n at row s       == the words s with the row `row` before place `at` of n rows; words after the n + 1 rows stay
 --   removed k n at s          == the words s without the row at place `at` of n rows; the last row is zeros, words after the n rows stay
-use Prim.Native.Nat.{ℕ, zero, suc, _+_, _-_, _*_, _/_, _^_, _<_}
+use Prim.Native.Nat.{ℕ, zero, suc, _+_, _-_, _*_, _/_, _^_}
 use mathlib.Core.Bool.{cond}
 use mathlib.Core.List.{List, [], _∷_, _++_}
 use lib.ListN.{length, getD, take, drop, replicate}
@@ -30,9 +27,6 @@ use Rattle.rows.specs.declared.Order.{Order}
 use Rattle.rows.specs.declared.Order.the-variants.{Less, Equal, Greater}
 use Rattle.rows.specs.declared.Found.{Found}
 use Rattle.rows.specs.declared.Found.the-variants.{At, Missing}
-
-abbrev pub rowAt : ℕ → List ℕ → ℕ → List ℕ
-rowAt k s i = take k (drop (i * k) s)
 
 unfoldable pub rowsIn : ℕ → ℕ → List ℕ → List (List ℕ)
 rowsIn k zero s = []
@@ -48,15 +42,6 @@ column k c l = flat l ++ replicate ((c - length l) * k) 0
 unfoldable pub rowKey : List ℕ → ℕ
 rowKey [] = 0
 rowKey (w ∷ r) = w * 4294967296 ^ length r + rowKey r
-
-abbrev pub Words : List ℕ → Type 0
-Words s = (i : ℕ) → getD s i 0 < 4294967296
-
-unfoldable pub wordsOrder : List ℕ → List ℕ → Order
-wordsOrder [] [] = Equal
-wordsOrder [] (y ∷ b) = Less
-wordsOrder (x ∷ a) [] = Greater
-wordsOrder (x ∷ a) (y ∷ b) = cond (ltb x y) Less (cond (ltb y x) Greater (wordsOrder a b))
 
 unfoldable pub keyOrder : ℕ → ℕ → Order
 keyOrder m n = cond (ltb m n) Less (cond (ltb n m) Greater Equal)
@@ -90,9 +75,9 @@ unfoldable pub closed : ℕ → ℕ → ℕ → List ℕ → List ℕ
 closed k n at s = paste s (at * k) (drop (at * k + k) s) ((n - 1 - at) * k)
 
 unfoldable pub inserted : ℕ → ℕ → List ℕ → List ℕ → List ℕ
-inserted n at key s =
-    let k = length key in
-    take (at * k) s ++ key ++ take ((n - at) * k) (drop (at * k) s) ++ drop (n * k + k) s
+inserted n at row s =
+    let k = length row in
+    take (at * k) s ++ row ++ take ((n - at) * k) (drop (at * k) s) ++ drop (n * k + k) s
 
 unfoldable pub removed : ℕ → ℕ → ℕ → List ℕ → List ℕ
 removed k n at s =

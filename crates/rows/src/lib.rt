@@ -1,4 +1,5 @@
-// Rows of words: n rows of k words each at the start of a lent slice, in rising order, high word first. A row is its own key.
+// Rows of words: n rows of k words each at the start of a lent slice. Only `search` asks that they rise, high word first, each row its own key;
+// `insert` and `remove` take any rows, such as those of attributes beside the keys.
 // The width k and the capacity are the caller's. Every function asks for the bounds that it needs; callers check before they call.
 // Every table lies in such rows: there is one search, one insertion and one removal.
 ghost use mathlib.Core.Path.{_≡_};
@@ -116,17 +117,17 @@ fn open_gap(s: &mut [u32], n: usize, k: usize, at: usize)
     }
 }
 
-// One row more among the first n, before place `at`.
-pub fn insert(s: &mut [u32], n: usize, at: usize, key: &[u32])
-    requires { ⌜ (at ≤ n) × (n * length (now key) + length (now key) ≤ length (now s)) ⌝ }
-    ensures { λ _. ⌜ now (s .exit) ≡ inserted n at (now (key .entry)) (now (s .entry)) ⌝ }
+// One row more among the first n, before place `at`: a key, or what stands beside one.
+pub fn insert(s: &mut [u32], n: usize, at: usize, row: &[u32])
+    requires { ⌜ (at ≤ n) × (n * length (now row) + length (now row) ≤ length (now s)) ⌝ }
+    ensures { λ _. ⌜ now (s .exit) ≡ inserted n at (now (row .entry)) (now (s .entry)) ⌝ }
 {
-    let k = key.len();
+    let k = row.len();
     open_gap(s, n, k, at);
     let from = at * k;
     let mut i = 0;
     while i < k {
-        s[from + i] = key[i];
+        s[from + i] = row[i];
         i += 1;
     }
 }

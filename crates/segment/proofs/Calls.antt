@@ -8,6 +8,7 @@ use mathlib.Core.List.{List, map}
 use lib.ListN.{length-map}
 use lib.Dec.{ltb, eqb}
 use borrow.Author.Tests.{ltb-true, lt-ltb, ne-eqb}
+use Rattle.lists.specs.Checks.{firstRefusal}
 use Rattle.address.specs.Address.{addressKey}
 use Rattle.route.specs.Route.{routeAddress}
 use Rattle.keyed.specs.Keyed.{has, insert, remove}
@@ -78,7 +79,7 @@ or-true true = refl
 or-true false = refl
 
 accept-again : (i r c : List ℕ) (p q : Bool) (m n : ℕ) → announceNumber i r c p m ≡ 0 → n < 64 → announceNumber i r c q n ≡ 0
-unfolding announceNumber
+unfolding announceNumber firstRefusal
 accept-again i r c p q m n h l =
     rw (passed-route i r c p m h, passed-esi i r c p m h, passed-list i r c p m h, lt-ltb n 64 l, or-true q)
 

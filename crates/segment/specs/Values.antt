@@ -4,8 +4,9 @@
 --   starred     == the table, in the document's order
 --   allRight l  == whether each value of l is what it should be
 use Prim.Native.Nat.{ℕ}
-use mathlib.Core.Bool.{Bool, true, false, cond, _&&_}
+use mathlib.Core.Bool.{Bool, true, false, _&&_}
 use mathlib.Core.List.{List, [], _∷_}
+use Rattle.lists.specs.Lists.{bit}
 use Rattle.octets.specs.Octets.{sameOctets}
 use Rattle.community.specs.Community.{electionUnder, communityOctets, readCommunity}
 use Rattle.hrw.specs.Weight.{weightOf}
@@ -17,9 +18,6 @@ use Rattle.layout.specs.Table.{Entry}
 pub record Value : Type 0 where
   pub computed : List ℕ
   pub right : List ℕ
-
-abbrev pub bit : Bool → ℕ
-bit b = cond b 1 0
 
 -- the addresses 10.0.0.1, 10.0.0.2, 10.0.0.3 and 138.0.0.1 (8A000001 hex)
 abbrev pub one : ℕ

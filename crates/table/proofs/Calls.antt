@@ -1,13 +1,17 @@
 -- Laws of the calls upon a table: which case of its definition each return of a call is, and that every call keeps a table well formed. Assumes nothing.
-use Prim.Native.Nat.{ℕ, suc, _≤_, _<_}
+use Prim.Native.Nat.{ℕ, _≤_, _<_}
 use native.Mathlib.Omega.{arith}
 use mathlib.Core.Path.{_≡_, refl, ap, _∙_, sym}
-use mathlib.Core.Bool.{Bool, true, false, cond, not, _||_}
+use mathlib.Core.Bool.{Bool, true, false, not, _||_}
 use mathlib.Core.List.{List, []}
 use mathlib.Core.Logic.{_⊎_, inl, inr, ⊎-elim}
 use lib.ListN.{length, set, length-set, replicate}
 use lib.Dec.{ltb, eqb}
-use borrow.Author.Tests.{lt-ltb, le-ltb, ltb-true, ne-eqb, eqb-true, eqb-false}
+use borrow.Author.Tests.{not-false, lt-ltb, le-ltb, ltb-true, ne-eqb, eqb-true}
+use Rattle.lists.specs.Checks.{firstRefusal}
+use Rattle.lists.specs.Lists.{Every}
+use Rattle.lists.proofs.Bools.{cond-by, eq-not, ne-not}
+use Rattle.lists.proofs.Checks.{passed-on, refused-at, refused-none, passed, telling-own}
 use Rattle.octets.specs.Octets.{sameOctets}
 use Rattle.octets.proofs.Laws.{same-equal}
 use Rattle.address.specs.Address.{addressKey, isZero}
@@ -20,7 +24,7 @@ use Rattle.route.proofs.Laws.{route-fault, route-esi, route-address, place-acce
 use Rattle.community.specs.Community.{listFits, electionIn, readList}
 use Rattle.community.specs.declared.ListRead.{ListRead}
 use Rattle.community.proofs.Laws.{list-refused, list-accepted, election-right}
-use Rattle.keyed.specs.Keyed.{spliced, cut, Rising, has, rank, insert, remove, Every}
+use Rattle.keyed.specs.Keyed.{spliced, cut, Rising, has, rank, insert, remove}
 use Rattle.keyed.proofs.Keyed as keyed
 use Rattle.keyed.proofs.Order.{length-insert, length-remove-le}
 use Rattle.rows.specs.Rows.{foundIn}
@@ -36,6 +40,14 @@ accepted t = record { number = 0; place = 0; table = t }
 abbrev refused : ℕ → Table → Change
 refused n t = record { number = n; place = 0; table = t }
 
+-- an answer by its number and place
+module _ {n p m q : ℕ} (old new : Table) (e : n ≡ m) (f : p ≡ q) where
+  alike : changed n p old new ≡ changed m q old new
+  alike = rw (e, f)
+
+  refuses : (n ≡ 0 → ⊥) → record { number = n; place = p; table = old } ≡ changed m q old new
+  refuses h = rw (← e, ← f, ne-eqb n 0 h)
+
 -- FRESH
 empty-kept : (i : List ℕ) → (reserved i ≡ false) ⊎ (i ≡ replicate 10 0) → WellFormed (tableOf i [])
 unfolding Rising Every
@@ -43,11 +55,8 @@ empty-kept i o = record { owner = ⊎-elim (λ h. inl h) (λ h. inr (h, refl)) o
 
 pub fresh-kept : (i : List ℕ) → WellFormed (freshTable i .table)
 unfolding freshTable ownerOf
-fresh-kept i = go (reserved i) refl
-  where
-    go : (b : Bool) → reserved i ≡ b → WellFormed (tableOf (cond b (replicate 10 0) i) [])
-    go true h = empty-kept (replicate 10 0) (inr refl)
-    go false h = empty-kept i (inl h)
+fresh-kept i =
+    cond-by (λ (j : List ℕ). WellFormed (tableOf j [])) (reserved i) (λ _. empty-kept (replicate 10 0) (inr refl)) (λ h. empty-kept i (inl h))
 
 module _ (t : Table) (w : WellFormed t) where
   abbrev es : List Entry
@@ -56,21 +65,21 @@ module _ (t : Table) (w : WellFormed t) where
   -- AN ENTRY that passed the checks before the last
   module _ (e : Entry) (i : ℕ) where
     pub admitted-at : foundIn entryKey (entryKey e) es ≡ At i → accepted (tableOf (t .esi) (set es i e)) ≡ admitted t e
-    unfolding admitted
+    unfolding admitted firstRefusal
     admitted-at h =
         let f = found-at entryKey (entryKey e) es i h in
         let p = keyed.present-of entryKey (entryKey e) es 1 noEntry (w .rising) (f .0) in
         rw (f .0, keyed.insert-present entryKey e es noEntry p, f .1)
 
     pub admitted-new : foundIn entryKey (entryKey e) es ≡ Missing i → length es < 64 → accepted (tableOf (t .esi) (spliced es i e)) ≡ admitted t e
-    unfolding admitted
+    unfolding admitted firstRefusal
     admitted-new h s =
         let f = found-missing entryKey (entryKey e) es i h in
         let p = keyed.absent-of entryKey (entryKey e) es noEntry (f .0) in
         rw (f .0, lt-ltb _ _ s, keyed.insert-absent entryKey e es noEntry p, f .1)
 
     pub admitted-full : foundIn entryKey (entryKey e) es ≡ Missing i → 64 ≤ length es → refused 8 t ≡ admitted t e
-    unfolding admitted
+    unfolding admitted firstRefusal
     admitted-full h s = rw (found-missing entryKey (entryKey e) es i h .0, le-ltb _ _ s)
 
   -- ANNOUNCEMENTS
@@ -82,27 +91,26 @@ module _ (t : Table) (w : WellFormed t) where
         let told = told-refused r n p (sym e ∙ h) in
         let f' : m ≡ routeNumber r = f ∙ ap checkedNumber h ∙ told .1 .0 in
         let g' : q ≡ routePlace r = g ∙ ap checkedPlace h ∙ told .1 .1 in
-        rw (ne-eqb (routeNumber r) 0 (told .0), f', g') (rw (ne-eqb (routeNumber r) 0 (told .0)) refl)
-
-    announced-other : routeNumber r ≡ 0 → sameOctets (t .esi) (routeEsi r) ≡ false → refused 5 t ≡ announced t r c
-    unfolding announced announceNumber
-    announced-other n s = rw (place-accepted r n, n, s)
-
-    announced-list : routeNumber r ≡ 0 → sameOctets (t .esi) (routeEsi r) ≡ true → listFits c ≡ false → refused 7 t ≡ announced t r c
-    unfolding announced announceNumber
-    announced-list n s l = rw (place-accepted r n, n, s, l)
+        rw (f', g') (refuses t _ (refused-at 0 _ tt (ne-not (told .0))) refl (told .0))
 
     announced-admitted : routeNumber r ≡ 0 → sameOctets (t .esi) (routeEsi r) ≡ true → listFits c ≡ true → admitted t (entryOf (routeAddress r) (electionIn c)) ≡ announced t r c
     unfolding announced announceNumber admitted
-    announced-admitted n s l = rw (place-accepted r n, n, s, l)
+    announced-admitted n s l = alike t _ (passed-on 3 _ (eq-not n, (ap not s, (ap not l, tt)))) (sym (place-accepted r n))
 
     -- the same, from what the steps of the call answer
     module _ (a : ℕ) (h : routeChecked r ≡ Originator a) where
+      route : routeNumber r ≡ 0
+      route = told-originator r a h .0
+
       pub differs : sameOctets (t .esi) (routeEsi r) ≡ false → refused 5 t ≡ announced t r c
-      differs s = announced-other (told-originator r a h .0) s
+      unfolding announced announceNumber
+      differs s = alike t _ (refused-at 1 _ (eq-not route, tt) (ap not s)) (sym (place-accepted r route))
 
       pub unread : (l : ListRead) → sameOctets (t .esi) (routeEsi r) ≡ true → l ≡ readList c → (l .number ≡ 0 → ⊥) → refused 7 t ≡ announced t r c
-      unread l s q n = announced-list (told-originator r a h .0) s (list-refused c (λ e. n (ap (λ (x : ListRead). x .number) q ∙ e)))
+      unfolding announced announceNumber
+      unread l s q n =
+          let f = list-refused c (λ e. n (ap (λ (x : ListRead). x .number) q ∙ e)) in
+          alike t _ (refused-at 2 _ (eq-not route, (ap not s, tt)) (ap not f)) (sym (place-accepted r route))
 
       pub done : (l : ListRead) (e : Entry) (x : Change) → sameOctets (t .esi) (routeEsi r) ≡ true → l ≡ readList c → l .number ≡ 0
           → e ≡ entryOf a (l .election) → x ≡ admitted t e → x ≡ announced t r c
@@ -116,47 +124,36 @@ module _ (t : Table) (w : WellFormed t) where
   module _ (a : ℕ) where
     pub withdrawn-zero : isZero a ≡ true → refused 6 t ≡ withdrawn t a
     unfolding withdrawn withdrawNumber
-    withdrawn-zero z = rw z
+    withdrawn-zero z = alike t _ (refused-at 0 _ tt z) refl
 
     pub withdrawn-missing : (i : ℕ) → isZero a ≡ false → foundIn entryKey (addressKey a) es ≡ Missing i → refused 9 t ≡ withdrawn t a
     unfolding withdrawn withdrawNumber
-    withdrawn-missing i z h = rw (z, found-missing entryKey (addressKey a) es i h .0)
+    withdrawn-missing i z h = alike t _ (refused-at 1 _ (z, tt) (ap not (found-missing entryKey (addressKey a) es i h .0))) refl
 
     pub withdrawn-at : (i : ℕ) → isZero a ≡ false → foundIn entryKey (addressKey a) es ≡ At i → accepted (tableOf (t .esi) (cut es i)) ≡ withdrawn t a
     unfolding withdrawn withdrawNumber
     withdrawn-at i z h =
         let f = found-at entryKey (addressKey a) es i h in
         let p = keyed.present-of entryKey (addressKey a) es 1 noEntry (w .rising) (f .0) in
-        rw (z, f .0, keyed.remove-present entryKey (addressKey a) es noEntry p, f .1)
+        rw (← f .1, ← keyed.remove-present entryKey (addressKey a) es noEntry p) (alike t _ (refused-none _ (z, (ap not (f .0), tt))) refl)
 
 -- WHAT PASSED CHECKS SAY
-passed : (b : Bool) (n m : ℕ) → cond (not b) (suc n) m ≡ 0 → (b ≡ true) × (m ≡ 0)
-passed true n m h = (refl, h)
-passed false n m h = absurd (omega arith)
-
-passed-own : (n m : ℕ) (b : Bool) → eqb n 0 ≡ b → cond (not b) n m ≡ 0 → (n ≡ 0) × (m ≡ 0)
-passed-own n m true e h = (eqb-true n 0 e, h)
-passed-own n m false e h = (h, absurd (eqb-false n 0 e h))
-
 module _ (i r c : List ℕ) (p : Bool) (n : ℕ) (h : announceNumber i r c p n ≡ 0) where
-  after-route : (routeNumber r ≡ 0) × (cond {A = ℕ} (not (sameOctets i (routeEsi r))) 5 (cond (not (listFits c)) 7 (cond (not (p || ltb n 64)) 8 0)) ≡ 0)
-  unfolding announceNumber
-  after-route = passed-own (routeNumber r) _ (eqb (routeNumber r) 0) refl h
-
   pub passed-route : routeNumber r ≡ 0
-  passed-route = after-route .0
+  unfolding announceNumber
+  passed-route = eqb-true _ _ (not-false _ (passed _ (telling-own (routeNumber r)) h .0))
 
   pub passed-esi : sameOctets i (routeEsi r) ≡ true
-  passed-esi = passed (sameOctets i (routeEsi r)) 4 _ (after-route .1) .0
-
-  after-esi : cond {A = ℕ} (not (listFits c)) 7 (cond (not (p || ltb n 64)) 8 0) ≡ 0
-  after-esi = passed (sameOctets i (routeEsi r)) 4 _ (after-route .1) .1
+  unfolding announceNumber
+  passed-esi = not-false _ (passed _ (telling-own (routeNumber r)) h .1 .0)
 
   pub passed-list : listFits c ≡ true
-  passed-list = passed (listFits c) 6 _ after-esi .0
+  unfolding announceNumber
+  passed-list = not-false _ (passed _ (telling-own (routeNumber r)) h .1 .1 .0)
 
   pub passed-room : (p || ltb n 64) ≡ true
-  passed-room = passed (p || ltb n 64) 7 0 (passed (listFits c) 6 _ after-esi .1) .0
+  unfolding announceNumber
+  passed-room = not-false _ (passed _ (telling-own (routeNumber r)) h .1 .1 .1 .0)
 
 -- EVERY CALL KEEPS A TABLE WELL FORMED
 -- the length of an insertion that there is room for
@@ -173,11 +170,7 @@ length-inserted e l r s h = go (has entryKey (entryKey e) l) refl h
     go false q v = omega (arith, length-insert entryKey e l q, ltb-true (length l) 64 v)
 
 chosen-kept : (n p : ℕ) (old new : Table) → WellFormed old → (n ≡ 0 → WellFormed new) → WellFormed (changed n p old new .table)
-chosen-kept n p old new w f = go (eqb n 0) refl
-  where
-    go : (b : Bool) → eqb n 0 ≡ b → WellFormed (cond b new old)
-    go true e = f (eqb-true n 0 e)
-    go false e = w
+chosen-kept n p old new w f = cond-by WellFormed (eqb n 0) (λ e. f (eqb-true n 0 e)) (λ _. w)
 
 module _ (t : Table) (w : WellFormed t) where
   pub announced-kept : (r c : List ℕ) → WellFormed (announced t r c .table)

@@ -2,11 +2,13 @@
 use Prim.Native.Nat.{ℕ, _≤_, _<_}
 use native.Mathlib.Omega.{arith}
 use mathlib.Core.Path.{_≡_, refl, ap, _∙_, sym, subst}
-use mathlib.Core.Bool.{Bool, true, false, cond}
+use mathlib.Core.Bool.{true, false, cond}
 use mathlib.Core.List.{List, [], _∷_, _++_}
 use lib.ListN.{length, getD, set, take, drop, length-drop, replicate}
 use lib.Seq.{length-take-le}
 use lib.Dec.{eqb}
+use Rattle.lists.specs.Lists.{Every}
+use Rattle.lists.proofs.Bools.{cond-by}
 use Rattle.address.specs.Address.{addressKey, addressRow, isZero}
 use Rattle.address.proofs.Laws.{key-injective}
 use Rattle.esi.specs.Reserved.{reserved}
@@ -15,7 +17,7 @@ use Rattle.community.specs.declared.Election.{Election}
 use Rattle.community.specs.Community.{electionIn, readList}
 use Rattle.community.specs.declared.ListRead.{ListRead}
 use Rattle.community.proofs.Laws.{list-accepted}
-use Rattle.keyed.specs.Keyed.{spliced, cut, has, insert, remove, Every}
+use Rattle.keyed.specs.Keyed.{spliced, cut, has, insert, remove}
 use Rattle.keyed.proofs.Keyed as keyed
 use Rattle.rows.specs.Rows.{column, flat, foundIn}
 use Rattle.rows.specs.declared.Found.the-variants.{At, Missing}
@@ -99,18 +101,10 @@ module _ (b : List ℕ) (h : Valid b) where
       (ap tableIn (o .1) ∙ table-in (c .table) (k .short) m, subst Valid (sym (o .1)) (valid-of (c .table) k m (subst Octets (sym e) (h .octets))))
 
   narrow-change : (n : ℕ) (l : List Entry) → Every Narrow l → Every Narrow (cond (eqb n 0) (tableOf (t .esi) l) t .entries)
-  narrow-change n l m = go (eqb n 0)
-    where
-      go : (v : Bool) → Every Narrow (cond v (tableOf (t .esi) l) t .entries)
-      go true = m
-      go false = narrow-entries b h
+  narrow-change n l m = cond-by (λ (x : Table). Every Narrow (x .entries)) (eqb n 0) (λ _. m) (λ _. narrow-entries b h)
 
   same-esi : (n : ℕ) (l : List Entry) → cond (eqb n 0) (tableOf (t .esi) l) t .esi ≡ t .esi
-  same-esi n l = go (eqb n 0)
-    where
-      go : (v : Bool) → cond v (tableOf (t .esi) l) t .esi ≡ t .esi
-      go true = refl
-      go false = refl
+  same-esi n l = cond-by (λ (x : Table). x .esi ≡ t .esi) (eqb n 0) (λ _. refl) (λ _. refl)
 
   -- WITHDRAWALS
   module _ (a : ℕ) where

@@ -3,10 +3,11 @@
 --   admitted t e    == the answer to an entry that passed the checks before the last: 8 where its address is new and 64 are present
 use Prim.Native.Nat.{ℕ}
 use mathlib.Core.Path.{_≡_}
-use mathlib.Core.Bool.{cond, not, _||_}
-use mathlib.Core.List.{List}
+use mathlib.Core.Bool.{not, _||_}
+use mathlib.Core.List.{List, [], _∷_}
 use lib.ListN.{length}
 use lib.Dec.{ltb}
+use Rattle.lists.specs.Checks.{firstRefusal}
 use Rattle.keyed.specs.Keyed.{has, insert}
 use Rattle.layout.specs.Table.{Entry, Table, entryKey, tableOf}
 use Rattle.layout.specs.Words.{wordsOf}
@@ -17,4 +18,7 @@ Stored c n b = (n ≡ c .number) × (b ≡ wordsOf (c .table))
 
 unfoldable pub admitted : Table → Entry → Change
 admitted t e =
-    changed (cond (not (has entryKey (entryKey e) (t .entries) || ltb (length (t .entries)) 64)) 8 0) 0 t (tableOf (t .esi) (insert entryKey e (t .entries)))
+    changed (firstRefusal ((not (has entryKey (entryKey e) (t .entries) || ltb (length (t .entries)) 64), 8) ∷ []))
+    0
+    t
+    (tableOf (t .esi) (insert entryKey e (t .entries)))

@@ -9,9 +9,10 @@
 use Prim.Native.Nat.{ℕ}
 use mathlib.Core.Path.{_≡_}
 use mathlib.Core.Bool.{Bool, cond, not, _||_}
-use mathlib.Core.List.{List, []}
+use mathlib.Core.List.{List, [], _∷_}
 use lib.ListN.{length}
 use lib.Dec.{ltb, eqb}
+use Rattle.lists.specs.Checks.{firstRefusal}
 use Rattle.octets.specs.Octets.{sameOctets}
 use Rattle.address.specs.Address.{addressKey, isZero}
 use Rattle.esi.specs.Reserved.{reserved}
@@ -24,14 +25,21 @@ use Rattle.layout.specs.Words.{tableIn}
 -- CHECKS, in their order
 unfoldable pub announceNumber : List ℕ → List ℕ → List ℕ → Bool → ℕ → ℕ
 announceNumber i r c present n =
-    cond (not (eqb (routeNumber r) 0)) (routeNumber r)
-    (cond (not (sameOctets i (routeEsi r))) 5
-    (cond (not (listFits c)) 7
-    (cond (not (present || ltb n 64)) 8
-    0)))
+    firstRefusal (
+    (not (eqb (routeNumber r) 0), routeNumber r)
+    ∷ (not (sameOctets i (routeEsi r)), 5)
+    ∷ (not (listFits c), 7)
+    ∷ (not (present || ltb n 64), 8)
+    ∷ []
+    )
 
 unfoldable pub withdrawNumber : ℕ → Bool → ℕ
-withdrawNumber a present = cond (isZero a) 6 (cond (not present) 9 0)
+withdrawNumber a present =
+    firstRefusal (
+    (isZero a, 6)
+    ∷ (not present, 9)
+    ∷ []
+    )
 
 -- ANSWERS: a refused call leaves the table as it got it. An announcement passes on the place of its route's refusal, which is 0 where the route is
 -- accepted (document 02, M-103); the other calls have place 0

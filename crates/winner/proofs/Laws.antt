@@ -1,20 +1,24 @@
 -- The best candidate of a set of places is found by a walk over the scores. Assumes nothing.
-use Prim.Native.Nat.{ℕ, suc, _+_, _-_, _*_, _%_, _^_, _≤_, _<_}
+use Prim.Native.Nat.{ℕ, _+_, _-_, _*_, _%_, _^_, _≤_, _<_}
 use native.Mathlib.Nat.{mod-lt}
 use native.Mathlib.Omega.{arith}
 use mathlib.Core.Path.{_≡_, refl, ap, _∙_, sym}
-use mathlib.Core.Bool.{Bool, true, false, cond}
+use mathlib.Core.Bool.{Bool, cond}
 use mathlib.Core.List.{List, [], _∷_, map}
 use lib.ListN.{length, getD, length-map, List·getD-map, List·getD-eq-default}
 use borrow.Author.Tests.{eq-eqb, ne-eqb}
-use Rattle.keyed.specs.Keyed.{Rising, Every}
+use Rattle.keyed.proofs.Keyed as keyed
+use Rattle.lists.specs.Lists.{Every}
+use Rattle.lists.proofs.Bools.{cond-by, bit-less}
+use Rattle.lists.proofs.Lists.{every-at}
+use Rattle.keyed.specs.Keyed.{Rising}
 use Rattle.layout.specs.Table.{Entry, entryKey, noEntry}
 use Rattle.layout.specs.Words.{standingOf}
-use Rattle.layout.proofs.Words.{Narrow, every-at, bit-less}
+use Rattle.layout.proofs.Words.{Narrow}
 use Rattle.places.specs.Places.{places}
 use Rattle.places.proofs.Laws.{Rises, rises-below, rises-at, places-under, places-walk}
 use Rattle.choice.specs.Choice.{best, bestOf, higher, byScore}
-use Rattle.choice.proofs.Criteria.{Ascending, ascending-at, ascending-of, best-walk}
+use Rattle.choice.proofs.Criteria.{best-walk}
 use Rattle.winner.specs.Winner.{better, elected, entriesAt}
 use Rattle.winner.specs.Steps.{scoreOf}
 use Rattle.winner.proofs.Orders.{better-score}
@@ -31,11 +35,6 @@ unfolding scoreOf standingOf
 score-plain a d s e n t q = q ∙ rw (ne-eqb a 1 n, ne-eqb a 3 t)
 
 -- THE ENTRIES AT PLACES that rise have keys that rise
-rising-ascending : (l : List Entry) (n : ℕ) → Rising entryKey n l → Ascending entryKey n l
-unfolding Rising
-rising-ascending [] n r = tt
-rising-ascending (x ∷ l) n r = (r .0, rising-ascending l (suc (entryKey x)) (r .1))
-
 module _ (es : List Entry) (short : length es ≤ 64) (rising : Rising entryKey 1 es) where
   entry-at : (ps : List ℕ) (i : ℕ) → getD (entriesAt es ps) i noEntry ≡ getD es (getD ps i 64) noEntry
   entry-at ps i =
@@ -43,18 +42,14 @@ module _ (es : List Entry) (short : length es ≤ 64) (rising : Rising entryKey 
       let out : getD es 64 noEntry ≡ noEntry = List·getD-eq-default es noEntry (omega arith) in
       ap (λ (e : Entry). getD (map f ps) i e) (sym out) ∙ List·getD-map f ps i 64
 
-  pub places-ascending : (ps : List ℕ) → Rises 0 (length es) ps → Ascending entryKey 0 (entriesAt es ps)
-  places-ascending ps r = ascending-of entryKey (entriesAt es ps) noEntry (λ i j g h.
+  pub places-rising : (ps : List ℕ) → Rises 0 (length es) ps → Rising entryKey 0 (entriesAt es ps)
+  places-rising ps r = keyed.rising-of entryKey (entriesAt es ps) 0 noEntry (λ h. omega arith) (λ i j g h.
       let n = length-map ps (λ (k : ℕ). getD es k noEntry) in
       rw (entry-at ps i, entry-at ps j)
-      (ascending-at entryKey 1 es noEntry (rising-ascending es 1 rising) (getD ps i 64) (getD ps j 64) (rises-at 0 (length es) ps i j 64 r g (omega (arith, n))) (rises-below 0 (length es) ps j 64 r (omega (arith, n)))))
+      (keyed.rising-pairs entryKey es 1 noEntry rising (getD ps i 64) (getD ps j 64) (rises-at 0 (length es) ps i j 64 r g (omega (arith, n))) (rises-below 0 (length es) ps j 64 r (omega (arith, n)))))
 
   -- THE BEST by score is the best by document 01's order
   module _ (narrow : Every Narrow es) (a d : ℕ) where
-    cond-narrow : (b : Bool) (x y : Entry) → Narrow x → Narrow y → Narrow (cond b x y)
-    cond-narrow true x y h k = h
-    cond-narrow false x y h k = k
-
     narrow-at : (i : ℕ) → Narrow (getD es i noEntry)
     narrow-at i = every-at Narrow es i noEntry (omega arith) narrow
 
@@ -65,13 +60,13 @@ module _ (es : List Entry) (short : length es ≤ 64) (rising : Rising entryKey 
         let y = getD es p noEntry in
         let k = narrow-at p in
         let b = byScore (scoreOf a d) entryKey y x in
-        ap (λ (c : Bool). best (better a d) (cond c y x) (entriesAt es ps)) (better-score a d y x k h) ∙ best-same (cond b y x) ps (cond-narrow b y x k h)
+        ap (λ (c : Bool). best (better a d) (cond c y x) (entriesAt es ps)) (better-score a d y x k h) ∙ best-same (cond b y x) ps (cond-by Narrow b (λ _. k) (λ _. h))
 
     pub best-scored : (ps : List ℕ) → Rises 0 (length es) ps → bestOf (higher (scoreOf a d)) noEntry (entriesAt es ps) ≡ bestOf (better a d) noEntry (entriesAt es ps)
-    unfolding bestOf
+    unfolding bestOf Rising
     best-scored [] r = refl
     best-scored (p ∷ ps) r =
-        sym (best-same (getD es p noEntry) ps (narrow-at p) ∙ best-walk (scoreOf a d) entryKey (getD es p noEntry) (entriesAt es ps) (places-ascending (p ∷ ps) r .1))
+        sym (best-same (getD es p noEntry) ps (narrow-at p) ∙ best-walk (scoreOf a d) entryKey (getD es p noEntry) (entriesAt es ps) (places-rising (p ∷ ps) r .1))
 
   -- THE ELECTED ONE
   module _ (s a tag d : ℕ) (under : s < 2 ^ length es) (fits : s < 2 ^ 64) (some : s ≡ 0 → ⊥) where

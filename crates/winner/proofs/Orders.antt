@@ -5,9 +5,10 @@ use mathlib.Core.Path.{_≡_, refl, ap₂, _∙_, sym}
 use mathlib.Core.Bool.{Bool, true, false, cond, not, _&&_}
 use lib.Dec.{ltb, eqb}
 use borrow.Author.Tests.{lt-ltb, le-ltb}
-use Rattle.keyed.proofs.Order.{Tri, less, equal, more, tri}
+use Rattle.lists.specs.Lists.{bit}
+use Rattle.lists.proofs.Bools.{cond-by}
+use Rattle.lists.proofs.Numbers.{Tri, less, equal, more, tri}
 use Rattle.layout.specs.Table.{Entry, entryKey}
-use Rattle.layout.specs.Words.{bit}
 use Rattle.layout.proofs.Words.{Narrow}
 use Rattle.hrw.specs.Weight.{weightOf}
 use Rattle.choice.specs.Choice.{decided, byScore}
@@ -22,11 +23,8 @@ order-preference false = order-then _ _ entryKey (criterion-higher (λ (e : Entr
 
 pub order-better : (a d : ℕ) → Order entryKey (better a d)
 unfolding better
-order-better a d = go (eqb a 1)
-  where
-    go : (b : Bool) → Order entryKey (cond b (byWeight d) (byPreference (eqb a 3)))
-    go true = order-byScore (λ (e : Entry). weightOf (e .address) d) entryKey
-    go false = order-preference (eqb a 3)
+order-better a d =
+    cond-by (Order entryKey) (eqb a 1) (λ _. order-byScore (λ (e : Entry). weightOf (e .address) d) entryKey) (λ _. order-preference (eqb a 3))
 
 -- under algorithms other than 1 the digest plays no part
 pub better-any : (a d f : ℕ) → eqb a 1 ≡ false → better a d ≡ better a f

@@ -3,8 +3,8 @@
 use Prim.Native.Nat.{ℕ, _+_, _-_, _*_}
 use mathlib.Core.Bool.{cond}
 use lib.Dec.{eqb}
+use Rattle.lists.specs.Lists.{bit}
 use Rattle.layout.specs.Table.{Entry}
-use Rattle.layout.specs.Words.{bit}
 use Rattle.hrw.specs.Weight.{weightOf}
 
 unfoldable pub scoreOf : ℕ → ℕ → Entry → ℕ

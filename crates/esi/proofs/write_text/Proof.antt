@@ -25,14 +25,14 @@ abbrev Done : List ℕ → List ℕ → ℕ → List ℕ → Type 0
 Done d s n l = (n ≡ writeTextNumber (length d) s) × ((l ≡ textWritten d s) × (n ≡ 0 → readText (take 29 l) ≡ accepted s))
 
 module _ (d s : List ℕ) where
-  refused : (n : ℕ) → writeTextNumber (length d) s ≡ n → 0 < n → Done d s n d
-  refused n e h = (sym e, (sym (written-refused d s (omega arith)), λ z. absurd (omega arith)))
+  refused : (n : ℕ) → n ≡ writeTextNumber (length d) s → 0 < n → Done d s n d
+  refused n e h = (e, (sym (written-refused d s (omega arith)), λ z. absurd (omega arith)))
 
   written : (l : List ℕ) → l ≡ textOf s ++ drop 29 d → Octets s → reserved s ≡ false → 29 ≤ length d → Done d s 0 l
   written l e o h k =
       let n = number-written d s h k in
       let w : l ≡ textWritten d s = e ∙ sym (written-text d s n) in
-      (sym n, (w, λ z. rw (w, take-written d s n) (read-of-text s o h)))
+      (n, (w, λ z. rw (w, take-written d s n) (read-of-text s o h)))
 
 returns : tie.Need-returns Inv-loop μ-loop
 returns c =

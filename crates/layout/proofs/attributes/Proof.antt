@@ -1,7 +1,7 @@
 -- `attributes` meets its contract: the bits of the fields do not overlap. Assumes nothing.
 use native.Mathlib.Omega.{arith}
+use Rattle.lists.proofs.Bools.{bit-of, bit-less}
 use Rattle.layout.specs.Words.{attributesOf, kindOf, standingOf}
-use Rattle.layout.proofs.Words.{bit-of, bit-less}
 use borrow.Author.Needs.{needs}
 use Rattle.layout.proofs.attributes.Statement.{statement}
 use Rattle.layout.proofs.attributes.Tie as tie

@@ -1,5 +1,5 @@
 -- `put_identifier` meets its contract: octet by octet, which the words are then. Assumes nothing.
-use Prim.Native.Nat.{ℕ, _+_, _≤_, _-_}
+use Prim.Native.Nat.{ℕ, _+_, _≤_, _<_, _-_}
 use native.Mathlib.Numerals.{add-one}
 use native.Mathlib.Omega.{arith}
 use mathlib.Core.Path.{_≡_, ap, sym, _∙_, subst}
@@ -7,8 +7,9 @@ use mathlib.Core.List.{List}
 use borrow.Author.Needs.{needs}
 use lib.ListN.{length, getD, set, take, length-set}
 use lib.Seq.{paste, paste-zero, paste-suc, take-all}
+use Rattle.lists.proofs.Lists.{every-next}
 use Rattle.layout.specs.Words.{Octets}
-use Rattle.layout.proofs.Words.{none-octets, octets-next, written-all}
+use Rattle.layout.proofs.Words.{none-octets, written-all}
 use Rattle.layout.proofs.put_identifier.Statement.{statement}
 use Rattle.layout.proofs.put_identifier.Tie as tie
 
@@ -34,7 +35,7 @@ loop-again c =
       omega arith,
       length-set (turn .loop .t) _ _ ∙ v .1,
       rw (add-one, o .0) (ap (λ (s : List ℕ). set s (129 + turn .loop .i) (getD (a .esi .now) (turn .loop .i) 0)) (v .2) ∙ paste-suc (a .t .now) 129 (a .esi .now) (turn .loop .i) 0 (omega arith) (omega arith)),
-      octets-next (a .esi .now) (turn .loop .i) (omega arith) (rw (← o .0) (o .1)) (v .3),
+      every-next (λ (o : ℕ). o < 256) (a .esi .now) (turn .loop .i) 0 (omega arith) (rw (← o .0) (o .1)) (v .3),
     )
 
 same-length : tie.Need-same-length Inv-loop μ-loop
