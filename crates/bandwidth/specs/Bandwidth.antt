@@ -14,6 +14,7 @@ use mathlib.Core.Bool.{Bool, true, cond, _&&_}
 use lib.Dec.{leb}
 use lib.IntN.{ℤ, pos, negsuc, negℤ, _+ℤ_}
 use lib.Signed.{leZ, _≤ℤ_}
+use Rattle.refusals.specs.Refusals.{stepOutOfRange}
 use Rattle.bandwidth.specs.declared.Sum.{Sum}
 
 abbrev pub highest : ℕ
@@ -31,7 +32,7 @@ sum n p = record { number = n; preference = p }
 
 -- the sum of the preference and the step as integers, stopped at both ends; 19 for what is no step
 unfoldable pub addStep : ℕ → ℤ → Sum
-addStep p s = cond (isStep s) (sum 0 (stopped (pos p +ℤ s))) (sum 19 0)
+addStep p s = cond (isStep s) (sum 0 (stopped (pos p +ℤ s))) (sum stepOutOfRange 0)
 
 abbrev pub after : ℕ → ℤ → ℕ
 after p s = addStep p s .preference

@@ -1,5 +1,6 @@
 // A preference that follows bandwidth: a lost link lowers it by a step, a mended one raises it. The sum is what a returning router takes as its
 // administrative preference.
+use refusals::STEP_OUT_OF_RANGE;
 ghost use mathlib.Core.Path.{_≡_};
 ghost use Rattle.bandwidth.specs.Bandwidth.{addStep, GivesBack, KeepsOrder};
 
@@ -23,7 +24,7 @@ pub fn add_step(preference: u16, step: i32) -> Sum
     ensures keeps_order { λ _. ⌜ KeepsOrder preference step ⌝ }
 {
     let refused = Sum {
-        number: 19,
+        number: STEP_OUT_OF_RANGE,
         preference: 0,
     };
     if step < MIN_STEP {

@@ -20,6 +20,7 @@ use lib.ListN.{length, getD, take, drop}
 use lib.Dec.{ltb, leb, eqb}
 use Rattle.lists.specs.Checks.{firstRefusal}
 use Rattle.octets.specs.Octets.{numberOf, octetsOf}
+use Rattle.refusals.specs.Refusals.{algorithmNotUsable, bufferShort, listLength}
 use Rattle.community.specs.declared.Election.{Election}
 use Rattle.community.specs.declared.ListRead.{ListRead}
 
@@ -73,14 +74,14 @@ electionIn s = chosen (elections (communities (length s / 8) s))
 
 unfoldable pub readList : List ℕ → ListRead
 readList s =
-    cond (listFits s) (record { number = 0; election = electionIn s }) (record { number = 7; election = noElection })
+    cond (listFits s) (record { number = 0; election = electionIn s }) (record { number = listLength; election = noElection })
 
 -- WRITING: 15 for an algorithm above 31, then 14 for a buffer under 8 octets; only the first 8 octets change
 unfoldable pub writeNumber : ℕ → ℕ → ℕ
 writeNumber a n =
     firstRefusal (
-    (ltb 31 a, 15)
-    ∷ (ltb n 8, 14)
+    (ltb 31 a, algorithmNotUsable)
+    ∷ (ltb n 8, bufferShort)
     ∷ []
     )
 

@@ -1,4 +1,7 @@
 // The DF Election Extended Community: writing one, and reading the list of communities that a route comes with.
+use refusals::ALGORITHM_NOT_USABLE;
+use refusals::BUFFER_SHORT;
+use refusals::LIST_LENGTH;
 ghost use mathlib.Core.Path.{_≡_};
 ghost use mathlib.Core.Bool.{cond, _&&_};
 ghost use Prim.Native.Nat.{_+_, _≤_, _%_};
@@ -91,13 +94,13 @@ pub fn read_list(s: &[u8]) -> ListRead
 {
     if 256 < s.len() {
         return ListRead {
-            number: 7,
+            number: LIST_LENGTH,
             election: NO_ELECTION,
         };
     }
     if s.len() % 8 != 0 {
         return ListRead {
-            number: 7,
+            number: LIST_LENGTH,
             election: NO_ELECTION,
         };
     }
@@ -142,10 +145,10 @@ pub fn write(buf: &mut [u8], algorithm: u8, ac_df: bool, dp: bool, preference: u
     ensures reads { λ r. ⌜ (r ≡ 0 → readList (take 8 (now (buf .exit))) ≡ record { number = 0; election = electionUnder algorithm «ac_df» dp preference }) ⌝ }
 {
     if 31 < algorithm {
-        return 15;
+        return ALGORITHM_NOT_USABLE;
     }
     if buf.len() < 8 {
-        return 14;
+        return BUFFER_SHORT;
     }
     let e = under(algorithm, ac_df, dp, preference);
     let flags = capabilities(e.dp, ac_df);

@@ -19,6 +19,7 @@ use Rattle.agreement.specs.Agreement.{inUse}
 use Rattle.agreement.specs.declared.InUse.{InUse}
 use Rattle.ready.specs.Ready.{candidates, candidateSet}
 use Rattle.winner.specs.Winner.{better, elected}
+use Rattle.refusals.specs.Refusals.{tagReserved, readyTooLong, noneEligible}
 use Rattle.election.specs.declared.Answer.{Answer}
 
 -- 10 for a reserved tag, 11 for a list over 64, 12 where no route is eligible
@@ -33,7 +34,7 @@ candidatesOf l ready = candidates (inUse l .«ac_df») ready l
 
 unfoldable pub answerOf : List ℕ → InUse → List Entry → ℕ → ℕ → Answer
 answerOf i u cs set tag =
-    cond (eqb (length cs) 0) (refusedAnswer 12) (record {
+    cond (eqb (length cs) 0) (refusedAnswer noneEligible) (record {
       number = 0;
       address = elected (u .algorithm) tag (digestOf tag i) cs .address;
       algorithm = u .algorithm;
@@ -43,15 +44,15 @@ answerOf i u cs set tag =
 
 unfoldable pub electOf : List ℕ → List Entry → ℕ → List ℕ → Answer
 electOf i l tag ready =
-    cond (reservedTag tag) (refusedAnswer 10)
-    (cond (ltb 64 (length ready)) (refusedAnswer 11)
+    cond (reservedTag tag) (refusedAnswer tagReserved)
+    (cond (ltb 64 (length ready)) (refusedAnswer readyTooLong)
     (answerOf i (inUse l) (candidatesOf l ready) (candidateSet (inUse l .«ac_df») ready l) tag))
 
 -- none is named, and 12 answered with zeros, exactly if no route is eligible; 10 and 11 come first
 abbrev pub NoneNamed : List Entry → ℕ → List ℕ → Answer → Type 0
 NoneNamed l tag ready r =
-    (r .number ≡ 12 → candidatesOf l ready ≡ [])
-    × (reservedTag tag ≡ false → length ready ≤ 64 → candidatesOf l ready ≡ [] → r ≡ refusedAnswer 12)
+    (r .number ≡ noneEligible → candidatesOf l ready ≡ [])
+    × (reservedTag tag ≡ false → length ready ≤ 64 → candidatesOf l ready ≡ [] → r ≡ refusedAnswer noneEligible)
 
 -- the address named is that of a candidate. Under algorithms 1 to 3 no candidate is better, and it is the only such; under 0 it is the one at tag mod N
 pub record Forwarder (i : List ℕ) (l : List Entry) (tag : ℕ) (ready : List ℕ) (r : Answer) : Type 0 where

@@ -1,6 +1,9 @@
 // The Designated Forwarder election for one Ethernet Tag: the algorithm in use (`agreement`), the candidates (`ready`), the elected one of them (`winner`), and
 // the whole answer.
 use address::Address;
+use refusals::NONE_ELIGIBLE;
+use refusals::READY_TOO_LONG;
+use refusals::TAG_RESERVED;
 ghost use mathlib.Core.Path.{_≡_};
 ghost use lib.Count.{ones};
 ghost use Rattle.layout.specs.Words.{tableIn, Valid};
@@ -15,13 +18,6 @@ pub struct Answer {
     pub n: u32,
     pub candidates: u64,
 }
-
-// The refusals of an election, in the order of their checks.
-const TAG_RESERVED: u8 = 10;
-
-const READY_TOO_LONG: u8 = 11;
-
-const NONE_ELIGIBLE: u8 = 12;
 
 // The reserved tag besides 0.
 const LAST_TAG: u32 = 4294967295;

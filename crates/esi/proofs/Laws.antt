@@ -99,10 +99,10 @@ module _ (t : List ℕ) where
       zeros : Octets (replicate 10 0)
       zeros = octets-replicate 10 0 (omega arith)
 
-  -- where 13 is answered, its place is the first fault
-  pub read-fault : readText t .number ≡ 13 → FirstFault t (readText t .place)
+  -- where 13 is answered, its offset is the first fault
+  pub read-fault : readText t .number ≡ 13 → FirstFault t (readText t .offset)
   read-fault =
-      read-cases t (λ a. a .number ≡ 13 → FirstFault t (a .place)) (λ w e. first-fault t) (λ w r e. absurd (omega arith)) (λ w r e. absurd (omega arith))
+      read-cases t (λ a. a .number ≡ 13 → FirstFault t (a .offset)) (λ w e. first-fault t) (λ w r e. absurd (omega arith)) (λ w r e. absurd (omega arith))
 
   -- the text of what was read is the text that was read, in lower case
   pub text-of-read : Octets t → readText t .number ≡ 0 → textOf (readText t .esi) ≡ lowerCase t

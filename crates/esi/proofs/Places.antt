@@ -25,7 +25,7 @@ unfolding tabulate
 octets-tabulate zero f h = octets-nil
 octets-tabulate (suc n) f h = octets-cons (f 0) (tabulate n (λ k. f (suc k))) (h 0 (omega arith)) (octets-tabulate n (λ k. f (suc k)) (λ k l. h (suc k) (omega arith)))
 
--- ---- the three kinds of place
+-- ---- the three kinds of offset
 
 pub right-colon : (i c : ℕ) → i % 3 ≡ 2 → rightAt i c ≡ eqb c 58
 unfolding rightAt
@@ -56,7 +56,7 @@ by-kind P i high low colon = go (i % 3) (mod-lt i (omega arith)) high low colon
     go (suc (suc zero)) h a b c = c refl
     go (suc (suc (suc m))) h a b c = absurd (omega arith)
 
--- ---- the first wrong place
+-- ---- the first wrong offset
 
 module _ (t : List ℕ) (i : ℕ) where
   pub wrong-end : length t ≤ i → wrongFrom i (drop i t) ≡ i
@@ -95,7 +95,7 @@ cond-past : (b : Bool) (x i k : ℕ) → i + k < cond b x i → b ≡ true
 cond-past true x i k h = refl
 cond-past false x i k h = absurd (omega arith)
 
--- before the first wrong place each character is there and right
+-- before the first wrong offset each character is there and right
 wrong-before : (t : List ℕ) (i k : ℕ) → i + k < wrongFrom i t → (k < length t) × (rightAt (i + k) (getD t k 0) ≡ true)
 unfolding wrongFrom
 wrong-before [] i k h = absurd (omega arith)
@@ -129,7 +129,7 @@ wrong-at (c ∷ t) i (suc k) e h =
     let step : i + suc k ≡ suc i + k = omega arith in
     rw step (wrong-at t (suc i) k ((rw r at e) ∙ step) (le-of-suc-le-suc h))
 
--- the first wrong place among the first 29 is the first fault
+-- the first wrong offset among the first 29 is the first fault
 pub first-fault : (t : List ℕ) → FirstFault t (firstWrong t)
 unfolding firstWrong rightIn
 first-fault t = (before, at)
@@ -156,7 +156,7 @@ first-fault t = (before, at)
     at : (ltb w 29 && (ltb w (length t) && rightAt w (getD t w 0))) ≡ false
     at = go (ltb w 29) (ltb w (length t)) refl refl
 
--- none of a text's characters is wrong exactly if the first wrong place is its end
+-- none of a text's characters is wrong exactly if the first wrong offset is its end
 pub right-each : (t : List ℕ) → wrongFrom 0 t ≡ length t → (i : ℕ) → i < length t → rightAt i (getD t i 0) ≡ true
 right-each t e i h = rw zero-add at (wrong-after t 0 (e ∙ sym (zero-add (length t))) i h)
 
@@ -209,13 +209,13 @@ module _ (t : List ℕ) (r : Right t) where
 
     high-at : i % 3 ≡ 0 → textAt (esiIn t) i ≡ lower (getD t i 0)
     high-at e =
-        let place : 3 * (i / 3) ≡ i = omega (arith, div-add-mod i 3) in
-        rw (text-high (esiIn t) i e, getD-esi t (i / 3) third, octet-high (i / 3) third, place) (digit-at (omega arith))
+        let offset : 3 * (i / 3) ≡ i = omega (arith, div-add-mod i 3) in
+        rw (text-high (esiIn t) i e, getD-esi t (i / 3) third, octet-high (i / 3) third, offset) (digit-at (omega arith))
 
     low-at : i % 3 ≡ 1 → textAt (esiIn t) i ≡ lower (getD t i 0)
     low-at e =
-        let place : 3 * (i / 3) + 1 ≡ i = omega (arith, div-add-mod i 3) in
-        rw (text-low (esiIn t) i e, getD-esi t (i / 3) third, octet-low (i / 3) third, place) (digit-at (omega arith))
+        let offset : 3 * (i / 3) + 1 ≡ i = omega (arith, div-add-mod i 3) in
+        rw (text-low (esiIn t) i e, getD-esi t (i / 3) third, octet-low (i / 3) third, offset) (digit-at (omega arith))
 
     colon-at : i % 3 ≡ 2 → textAt (esiIn t) i ≡ lower (getD t i 0)
     colon-at e =

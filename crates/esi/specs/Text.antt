@@ -1,20 +1,20 @@
 -- The text of an identifier, after document 01, "The plate" (its word for this text): 29 characters, ten pairs of digits with a colon between pairs.
--- A place of a text is counted from 0. A colon is the character 58.
+-- A offset of a text is counted from 0. A colon is the character 58.
 --   between a b c       == whether c is one of the characters from a to b
 --   digitValue c        == the number of the digit c, which is one of 0-9, a-f, A-F; 16 where c is no digit
---   rightAt i c         == whether c may stand at place i: a colon where i % 3 is 2, else a digit
---   wrongFrom i t       == the first place of a wrong character, where t stands from place i on; the place after t if there is none
---   firstWrong t        == the first place of a wrong character among the first 29; else the length of t if that is under 29, else 29
---   rightIn t i         == whether a right character stands at place i of t: i is one of the 29 places, and the character there is neither missing nor wrong
---   FirstFault t p      == the characters of t before place p are right, and the one at p is not: it is wrong, or missing, or one too many
+--   rightAt i c         == whether c may stand at offset i: a colon where i % 3 is 2, else a digit
+--   wrongFrom i t       == the first offset of a wrong character, where t stands from offset i on; the offset after t if there is none
+--   firstWrong t        == the first offset of a wrong character among the first 29; else the length of t if that is under 29, else 29
+--   rightIn t i         == whether a right character stands at offset i of t: i is one of the 29 places, and the character there is neither missing nor wrong
+--   FirstFault t p      == the characters of t before offset p are right, and the one at p is not: it is wrong, or missing, or one too many
 --   wellFormed t        == whether t is 29 characters and none is wrong
 --   octetAt t k         == octet k of the identifier that t says
 --   esiIn t             == the identifier that t says
 --   accepted s          == the answer with the identifier s
---   refused n p         == the refusal n, with the place p and ten zeros
---   readText t          == the answer for the text t; with 13 its place is that of the first fault (document 02, M-103), else it is 0
+--   refused n p         == the refusal n, with the offset p and ten zeros
+--   readText t          == the answer for the text t; with 13 its offset is that of the first fault (document 02, M-103), else it is 0
 --   digitOf n           == the digit of the number n, in lower case
---   textAt s i          == the character at place i of the text of the identifier s
+--   textAt s i          == the character at offset i of the text of the identifier s
 --   textOf s            == the text of the identifier s
 --   lower c             == c in lower case if it is a digit A-F, else c
 --   lowerCase t         == t with each such digit in lower case
@@ -28,6 +28,7 @@ use lib.ListN.{length, getD, take, drop, replicate}
 use lib.Dec.{leb, ltb, eqb}
 use Rattle.lists.specs.Checks.{firstRefusal}
 use Rattle.lists.specs.Lists.{tabulate}
+use Rattle.refusals.specs.Refusals.{esiText, esiReserved, bufferShort}
 use Rattle.esi.specs.declared.TextRead.{TextRead}
 use Rattle.esi.specs.Reserved.{reserved}
 
@@ -48,7 +49,7 @@ wrongFrom i (c ∷ t) = cond (rightAt i c) (wrongFrom (suc i) t) i
 unfoldable pub firstWrong : List ℕ → ℕ
 firstWrong t = wrongFrom 0 (take 29 t)
 
--- what the place of a refused text tells the person who reads it
+-- what the offset of a refused text tells the person who reads it
 unfoldable pub rightIn : List ℕ → ℕ → Bool
 rightIn t i = ltb i 29 && (ltb i (length t) && rightAt i (getD t i 0))
 
@@ -65,13 +66,13 @@ unfoldable pub esiIn : List ℕ → List ℕ
 esiIn t = tabulate 10 (octetAt t)
 
 abbrev pub accepted : List ℕ → TextRead
-accepted s = record { number = 0; place = 0; esi = s }
+accepted s = record { number = 0; offset = 0; esi = s }
 
 abbrev pub refused : ℕ → ℕ → TextRead
-refused n p = record { number = n; place = p; esi = replicate 10 0 }
+refused n p = record { number = n; offset = p; esi = replicate 10 0 }
 
 unfoldable pub readText : List ℕ → TextRead
-readText t = cond (not (wellFormed t)) (refused 13 (firstWrong t)) (cond (reserved (esiIn t)) (refused 4 0) (accepted (esiIn t)))
+readText t = cond (not (wellFormed t)) (refused esiText (firstWrong t)) (cond (reserved (esiIn t)) (refused esiReserved 0) (accepted (esiIn t)))
 
 unfoldable pub digitOf : ℕ → ℕ
 digitOf n = cond (ltb n 10) (48 + n) (87 + n)
@@ -91,8 +92,8 @@ lowerCase t = map lower t
 unfoldable pub writeTextNumber : ℕ → List ℕ → ℕ
 writeTextNumber n s =
     firstRefusal (
-    (reserved s, 4)
-    ∷ (ltb n 29, 14)
+    (reserved s, esiReserved)
+    ∷ (ltb n 29, bufferShort)
     ∷ []
     )
 

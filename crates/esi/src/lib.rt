@@ -1,4 +1,7 @@
 // The Ethernet Segment Identifier (ESI) of RFC 7432: which ones are reserved, and the text of one (document 01's plate).
+use refusals::BUFFER_SHORT;
+use refusals::ESI_RESERVED;
+use refusals::ESI_TEXT;
 ghost use mathlib.Core.Path.{_≡_};
 ghost use Prim.Native.Nat.{_<_};
 ghost use mathlib.Core.Bool.{true};
@@ -32,20 +35,11 @@ const TEXT_LENGTH: usize = 29;
 // The character between two pairs of digits.
 const COLON: u8 = b':';
 
-// Refusal numbers of document 01: an identifier that is reserved or not ten octets,
-const ESI_RESERVED: u8 = 4;
-
-// a text that is none,
-const NOT_A_TEXT: u8 = 13;
-
-// and a buffer that is too short.
-const BUFFER_SHORT: u8 = 14;
-
-// What reading a text gives: 0, place 0 and the identifier, or a refusal number, a place and ten zeros. With 13 the place is that of the
+// What reading a text gives: 0, offset 0 and the identifier, or a refusal number, a offset and ten zeros. With 13 the offset is that of the
 // first fault, with 4 it is 0.
 pub struct TextRead {
     pub number: u8,
-    pub place: usize,
+    pub offset: usize,
     pub esi: [u8; 10],
 }
 
@@ -74,7 +68,7 @@ fn digit_value(c: u8) -> u8
     }
 }
 
-// Whether the character c may stand at place i of a text: a colon at every third place, a digit elsewhere.
+// Whether the character c may stand at offset i of a text: a colon at every third offset, a digit elsewhere.
 fn right_at(i: usize, c: u8) -> bool
     ensures { λ r. ⌜ r ≡ rightAt i c ⌝ }
 {
@@ -84,7 +78,7 @@ fn right_at(i: usize, c: u8) -> bool
     digit_value(c) < 16
 }
 
-// The place of the first wrong character among the first 29; else the text's length if that is under 29, else 29.
+// The offset of the first wrong character among the first 29; else the text's length if that is under 29, else 29.
 fn first_wrong(text: &[u8]) -> usize
     ensures { λ r. ⌜ r ≡ firstWrong (now (text .entry)) ⌝ }
 {
@@ -123,31 +117,31 @@ fn esi_in(text: &[u8]) -> [u8; 10]
     esi
 }
 
-// A refusal at a place, with ten zeros for the identifier.
-fn refusal(number: u8, place: usize) -> TextRead
-    ensures { λ r. ⌜ r ≡ refused number place ⌝ }
+// A refusal at a offset, with ten zeros for the identifier.
+fn refusal(number: u8, offset: usize) -> TextRead
+    ensures { λ r. ⌜ r ≡ refused number offset ⌝ }
 {
     TextRead {
         number: number,
-        place: place,
+        offset: offset,
         esi: [0; 10],
     }
 }
 
 // Reads the text of an identifier: 13 unless it is 29 characters, ten pairs of digits with a colon between pairs; then 4 for a
-// reserved identifier; else 0 and the identifier. With 13 comes the place of the first fault: every character before it is right, and the one at
-// it is wrong, or missing, or one too many; else the place is 0. The text of what was read is the text itself, in lower case.
+// reserved identifier; else 0 and the identifier. With 13 comes the offset of the first fault: every character before it is right, and the one at
+// it is wrong, or missing, or one too many; else the offset is 0. The text of what was read is the text itself, in lower case.
 pub fn read_text(text: &[u8]) -> TextRead
     ensures answer { λ r. ⌜ r ≡ readText (now (text .entry)) ⌝ }
-    ensures fault { λ r. ⌜ (r .number ≡ 13 → FirstFault (now (text .entry)) (r .place)) ⌝ }
+    ensures fault { λ r. ⌜ (r .number ≡ 13 → FirstFault (now (text .entry)) (r .offset)) ⌝ }
     ensures round_trip { λ r. ⌜ (r .number ≡ 0 → textOf (r .esi) ≡ lowerCase (now (text .entry))) ⌝ }
 {
     let wrong = first_wrong(text);
     if text.len() != TEXT_LENGTH {
-        return refusal(NOT_A_TEXT, wrong);
+        return refusal(ESI_TEXT, wrong);
     }
     if wrong != TEXT_LENGTH {
-        return refusal(NOT_A_TEXT, wrong);
+        return refusal(ESI_TEXT, wrong);
     }
     let esi = esi_in(text);
     if is_reserved(&esi) {
@@ -155,7 +149,7 @@ pub fn read_text(text: &[u8]) -> TextRead
     }
     TextRead {
         number: 0,
-        place: 0,
+        offset: 0,
         esi: esi,
     }
 }
@@ -171,7 +165,7 @@ fn digit_of(n: u8) -> u8
     87 + n
 }
 
-// The character at place i of the text of an identifier.
+// The character at offset i of the text of an identifier.
 fn text_at(esi: &[u8], i: usize) -> u8
     requires { ⌜ (length (now esi) ≡ 10) × (i < 29) ⌝ }
     ensures { λ r. ⌜ r ≡ textAt (now (esi .entry)) i ⌝ }
@@ -199,10 +193,10 @@ pub fn write_text(buf: &mut [u8], esi: &[u8]) -> u8
     if buf.len() < TEXT_LENGTH {
         return BUFFER_SHORT;
     }
-    let mut place = 0;
-    while place < TEXT_LENGTH {
-        buf[place] = text_at(esi, place);
-        place += 1;
+    let mut offset = 0;
+    while offset < TEXT_LENGTH {
+        buf[offset] = text_at(esi, offset);
+        offset += 1;
     }
     0
 }

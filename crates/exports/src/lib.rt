@@ -13,7 +13,7 @@ ghost use Rattle.exports.specs.Exports.{answerOf, sentOf};
 #[repr(C)]
 pub struct Verdict {
     pub number: u8,
-    pub place: usize,
+    pub offset: usize,
 }
 
 #[repr(C)]
@@ -48,13 +48,13 @@ pub extern "C" fn segment_fresh(t: &mut [u32; WORDS], esi: &[u8]) -> u8
 #[no_mangle]
 pub extern "C" fn segment_announce(t: &mut [u32], route: &[u8], communities: &[u8]) -> Verdict
     requires { ⌜ Valid (now t) ⌝ }
-    ensures answer { λ r. ⌜ Told (announced (tableIn (now (t .entry))) (now (route .entry)) (now (communities .entry))) (r .number) (r .place) (now (t .exit)) ⌝ }
+    ensures answer { λ r. ⌜ Told (announced (tableIn (now (t .entry))) (now (route .entry)) (now (communities .entry))) (r .number) (r .offset) (now (t .exit)) ⌝ }
     ensures kept { λ _. ⌜ Valid (now (t .exit)) ⌝ }
 {
     let told = segment::announce(t, route, communities);
     Verdict {
         number: told.number,
-        place: told.place,
+        offset: told.offset,
     }
 }
 

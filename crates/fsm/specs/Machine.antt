@@ -17,6 +17,7 @@
 use Prim.Native.Nat.{ℕ, _+_, _-_, _%_, _^_}
 use mathlib.Core.Bool.{Bool, cond, _&&_}
 use lib.Dec.{leb, eqb}
+use Rattle.refusals.specs.Refusals.{waitOutOfRange, eventUnknown}
 use Rattle.fsm.specs.declared.State.{State}
 use Rattle.fsm.specs.declared.State.the-variants.{Init, DfWait, DfCalc, DfDone}
 use Rattle.fsm.specs.declared.Event.{Event}
@@ -83,7 +84,7 @@ inInit w = record { state = Init; wait = w; since = 0 }
 
 -- 17 for a wait that is not 1 to 600
 unfoldable pub madeOf : ℕ → Answer
-madeOf w = cond (leb 1 w && leb w 600) (record { number = 0; machine = inInit w }) (record { number = 17; machine = inInit 0 })
+madeOf w = cond (leb 1 w && leb w 600) (record { number = 0; machine = inInit w }) (record { number = waitOutOfRange; machine = inInit 0 })
 
 unfoldable pub driveOf : Machine → Event → ℕ → Machine
 driveOf m e now = record { state = nextState (m .state) e; wait = m .wait; since = cond (starts (m .state) e) now (m .since) }
@@ -93,7 +94,7 @@ tickOf m now = cond (due m now) (driveOf m DfTimer now) m
 
 unfoldable pub answerOf : Machine → ℕ → Numbered → Answer
 answerOf m now (Is e) = record { number = 0; machine = driveOf m e now }
-answerOf m now Nothing = record { number = 23; machine = m }
+answerOf m now Nothing = record { number = eventUnknown; machine = m }
 
 unfoldable pub drivenOf : Machine → ℕ → ℕ → Answer
 drivenOf m n now = answerOf m now (eventOf n)

@@ -1,5 +1,7 @@
 // The DF election finite state machine (RFC 8584, section 2.1): when a router that has come up waits, when it calculates, and when it has elected.
 // A machine goes in and comes back by value. Whatever list of events and clock readings follows its making, `make` promises what becomes of it.
+use refusals::EVENT_UNKNOWN;
+use refusals::WAIT_OUT_OF_RANGE;
 ghost use mathlib.Core.Path.{_≡_};
 ghost use mathlib.Core.List.{List};
 ghost use Prim.Native.Nat.{_+_, _%_, _^_};
@@ -150,7 +152,7 @@ pub fn make(wait: u32) -> Answer
     ensures runs { λ r. ⌜ ((l : List Item) → Claims (r .machine) (run (r .machine) l)) ⌝ }
 {
     let refused = Answer {
-        number: 17,
+        number: WAIT_OUT_OF_RANGE,
         machine: Machine {
             state: State::Init,
             wait: 0,
@@ -210,7 +212,7 @@ pub fn drive_number(m: Machine, event: u8, now: u32) -> Answer
 {
     let Numbered::Is(e) = event_of(event) else {
         return Answer {
-            number: 23,
+            number: EVENT_UNKNOWN,
             machine: m,
         };
     };

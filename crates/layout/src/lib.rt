@@ -8,7 +8,7 @@ ghost use mathlib.Core.Path.{_≡_};
 ghost use mathlib.Core.List.{[], _∷_, _++_, map};
 ghost use Prim.Native.Nat.{_≤_, _<_};
 ghost use lib.ListN.{length, getD, set, take};
-ghost use Rattle.octets.specs.Octets.{sameOctets};
+ghost use Rattle.octets.specs.Octets.{sameNumbers};
 ghost use Rattle.keyed.specs.Keyed.{spliced, cut};
 ghost use Rattle.rows.specs.Rows.{foundIn, looksFor};
 ghost use Rattle.address.specs.Address.{addressKey, addressRow};
@@ -71,7 +71,7 @@ pub fn identifier(t: &[u32]) -> [u8; 10]
 // Whether a table belongs to an identifier of ten octets.
 pub fn same_identifier(t: &[u32], esi: &[u8]) -> bool
     requires { ⌜ Valid (now t) × (length (now esi) ≡ 10) ⌝ }
-    ensures { λ r. ⌜ r ≡ sameOctets (tableIn (now (t .entry)) .esi) (now (esi .entry)) ⌝ }
+    ensures { λ r. ⌜ r ≡ sameNumbers (tableIn (now (t .entry)) .esi) (now (esi .entry)) ⌝ }
 {
     let mut i = 0;
     while i < ESI_LENGTH {

@@ -14,7 +14,7 @@ use lib.Arith.{mod-mul}
 use lib.Dec.{leb, eqb}
 use borrow.Author.Tests.{eq-eqb, ne-eqb, eqb-true, le-leb, lt-leb, leb-true}
 use Rattle.lists.proofs.Bools.{cond-by, not-true-false}
-use Rattle.octets.specs.Octets.{numberOf, octetsOf, sameOctets, allAre, stored}
+use Rattle.octets.specs.Octets.{numberOf, octetsOf, sameNumbers, allAre, stored}
 
 -- ---- every element is an octet
 
@@ -42,24 +42,24 @@ octets-drop n s o i = rw getD-drop (o (n + i))
 
 -- ---- equal runs
 
-pub same-refl : (a : List ℕ) → sameOctets a a ≡ true
-unfolding sameOctets
+pub same-refl : (a : List ℕ) → sameNumbers a a ≡ true
+unfolding sameNumbers
 same-refl [] = refl
 same-refl (x ∷ a) = rw (eq-eqb x x refl) (same-refl a)
 
-pub same-equal : (a b : List ℕ) → sameOctets a b ≡ true → a ≡ b
-unfolding sameOctets
+pub same-equal : (a b : List ℕ) → sameNumbers a b ≡ true → a ≡ b
+unfolding sameNumbers
 same-equal [] [] h = refl
 same-equal [] (y ∷ b) h = absurd (false≢true h)
 same-equal (x ∷ a) [] h = absurd (false≢true h)
 same-equal (x ∷ a) (y ∷ b) h =
-    let p = and-eq-true-iff (eqb x y) (sameOctets a b) .0 h in
+    let p = and-eq-true-iff (eqb x y) (sameNumbers a b) .0 h in
     ap₂ (λ (v : ℕ) (l : List ℕ). v ∷ l) (eqb-true x y (p .0)) (same-equal a b (p .1))
 
-pub same-of : {a b : List ℕ} → a ≡ b → sameOctets a b ≡ true
+pub same-of : {a b : List ℕ} → a ≡ b → sameNumbers a b ≡ true
 same-of {a} e = rw (← e) (same-refl a)
 
-pub same-differ : (a b : List ℕ) → (a ≡ b → ⊥) → sameOctets a b ≡ false
+pub same-differ : (a b : List ℕ) → (a ≡ b → ⊥) → sameNumbers a b ≡ false
 same-differ a b h = not-true-false (λ t. h (same-equal a b t))
 
 -- ---- runs of one octet

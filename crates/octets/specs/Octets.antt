@@ -1,7 +1,7 @@
 -- Octets and the numbers that they make, high octet first, as document 01 writes every field ("The route", "The community").
 --   numberOf s        == the number that the octets s make
 --   octetsOf n v      == the low n octets of the number v
---   sameOctets a b    == whether a and b are the same octets
+--   sameNumbers a b    == whether a and b are the same numbers, one by one
 --   allAre x s        == whether every octet of s is x
 --   stored d at s     == d with s in the places from `at` on; d itself where s does not fit
 use Prim.Native.Nat.{ℕ, zero, suc, _+_, _*_, _/_, _%_, _^_}
@@ -18,11 +18,11 @@ unfoldable pub octetsOf : ℕ → ℕ → List ℕ
 octetsOf zero v = []
 octetsOf (suc n) v = v / 256 ^ n % 256 ∷ octetsOf n v
 
-unfoldable pub sameOctets : List ℕ → List ℕ → Bool
-sameOctets [] [] = true
-sameOctets [] (y ∷ b) = false
-sameOctets (x ∷ a) [] = false
-sameOctets (x ∷ a) (y ∷ b) = eqb x y && sameOctets a b
+unfoldable pub sameNumbers : List ℕ → List ℕ → Bool
+sameNumbers [] [] = true
+sameNumbers [] (y ∷ b) = false
+sameNumbers (x ∷ a) [] = false
+sameNumbers (x ∷ a) (y ∷ b) = eqb x y && sameNumbers a b
 
 unfoldable pub allAre : ℕ → List ℕ → Bool
 allAre x [] = true

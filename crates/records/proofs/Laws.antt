@@ -14,7 +14,7 @@ use Rattle.octets.proofs.Laws.{stored-fits, front-all}
 use Rattle.lines.specs.Lines.{decimal, dotted, Put}
 use Rattle.lines.proofs.Laws.{put-place, put-all, length-decimal, length-decimal-octet, length-dotted}
 use Rattle.records.specs.Steps.{Written, takes}
-use Rattle.records.specs.Records.{line, placeLine, hasPlace, readLine, electedLine, queryLine}
+use Rattle.records.specs.Records.{line, offsetLine, hasOffset, readLine, electedLine, queryLine}
 
 -- ---- lines
 
@@ -22,9 +22,9 @@ pub length-line : (c n : ℕ) → n < 256 → length (line c n) ≤ 40
 unfolding line
 length-line c n h = omega (arith, length-append (decimal n) (10 ∷ []), length-decimal-octet n h)
 
-pub length-place : (c n p : ℕ) → n < 256 → p < 2 ^ 64 → length (placeLine c n p) ≤ 40
-unfolding placeLine
-length-place c n p h l =
+pub length-offset : (c n p : ℕ) → n < 256 → p < 2 ^ 64 → length (offsetLine c n p) ≤ 40
+unfolding offsetLine
+length-offset c n p h l =
     omega (
       arith,
       length-append (decimal n) (32 ∷ decimal p ++ (10 ∷ [])),
@@ -33,34 +33,34 @@ length-place c n p h l =
       length-decimal 19 p (omega arith),
     )
 
--- after which numbers a place is printed
+-- after which numbers a offset is printed
 module _ (n : ℕ) where
-  pub place-first : 1 ≤ n → n ≤ 4 → hasPlace n ≡ true
-  unfolding hasPlace
-  place-first h l = rw (le-leb 1 n h, le-leb n 4 l)
+  pub offset-first : 1 ≤ n → n ≤ 4 → hasOffset n ≡ true
+  unfolding hasOffset
+  offset-first h l = rw (le-leb 1 n h, le-leb n 4 l)
 
-  pub place-6 : n ≡ 6 → hasPlace n ≡ true
-  unfolding hasPlace
-  place-6 e = rw e
+  pub offset-6 : n ≡ 6 → hasOffset n ≡ true
+  unfolding hasOffset
+  offset-6 e = rw e
 
-  pub place-13 : n ≡ 13 → hasPlace n ≡ true
-  unfolding hasPlace
-  place-13 e = rw e
+  pub offset-13 : n ≡ 13 → hasOffset n ≡ true
+  unfolding hasOffset
+  offset-13 e = rw e
 
-  pub no-place-0 : n < 1 → hasPlace n ≡ false
-  unfolding hasPlace
-  no-place-0 h = rw (lt-leb 1 n h, ne-eqb n 6 (λ z. omega arith), ne-eqb n 13 (λ z. omega arith))
+  pub no-offset-0 : n < 1 → hasOffset n ≡ false
+  unfolding hasOffset
+  no-offset-0 h = rw (lt-leb 1 n h, ne-eqb n 6 (λ z. omega arith), ne-eqb n 13 (λ z. omega arith))
 
-  pub no-place : 4 < n → (n ≡ 6 → ⊥) → (n ≡ 13 → ⊥) → hasPlace n ≡ false
-  unfolding hasPlace
-  no-place h a b = rw (le-leb 1 n (omega arith), lt-leb n 4 h, ne-eqb n 6 a, ne-eqb n 13 b)
+  pub no-offset : 4 < n → (n ≡ 6 → ⊥) → (n ≡ 13 → ⊥) → hasOffset n ≡ false
+  unfolding hasOffset
+  no-offset h a b = rw (le-leb 1 n (omega arith), lt-leb n 4 h, ne-eqb n 6 a, ne-eqb n 13 b)
 
 -- which line is that of what was read
-pub read-place : (c n p : ℕ) → hasPlace n ≡ true → placeLine c n p ≡ readLine c n p
+pub read-offset : (c n p : ℕ) → hasOffset n ≡ true → offsetLine c n p ≡ readLine c n p
 unfolding readLine
-read-place c n p h = rw h
+read-offset c n p h = rw h
 
-pub read-none : (c n p : ℕ) → hasPlace n ≡ false → line c n ≡ readLine c n p
+pub read-none : (c n p : ℕ) → hasOffset n ≡ false → line c n ≡ readLine c n p
 unfolding readLine
 read-none c n p h = rw h
 
@@ -81,7 +81,7 @@ query-accepted r h = rw (eq-eqb (r .number) 0 h)
 
 -- what is put where there is room is written
 pub written : {d : List ℕ} {at : ℕ} {s : List ℕ} {r : ℕ} {e : List ℕ} → Put d at s r e → at + length s ≤ length d → Written d at s r e
-written p h = record { fits = h; place = put-place p h; buffer = p .buffer }
+written p h = record { fits = h; offset = put-place p h; buffer = p .buffer }
 
 -- pieces that are put one after another are written as a whole
 pub written-all : {d : List ℕ} {at : ℕ} {s : List ℕ} {r : ℕ} {e t : List ℕ}
@@ -95,7 +95,7 @@ written-as {d} {at} {s} {t} {r} {e} w q = subst (λ (l : List ℕ). Written d at
 -- no octets written into a buffer
 pub written-none : (d : List ℕ) (at : ℕ) → at ≤ length d → Written d at [] at d
 written-none d at h =
-    record { fits = omega arith; place = omega arith; buffer = sym (stored-fits d at [] (omega arith) ∙ rw (add-zero, append-nil) (take-append-drop at d)) }
+    record { fits = omega arith; offset = omega arith; buffer = sym (stored-fits d at [] (omega arith) ∙ rw (add-zero, append-nil) (take-append-drop at d)) }
 
 -- ---- words copied
 

@@ -57,12 +57,12 @@ module _ {d : List ℕ} {at n : ℕ} {e : List ℕ} where
       let q : Told (withdrawn t (numberOf p)) m 0 v = subst (λ (z : ℕ). Told (withdrawn t z) m 0 v) g told in
       record { put = written-as w (ap (line 119) (q .0)); next = ap running (q .2); kept = k }
 
-  module _ (p : List ℕ) (x : TextRead) (q : x ≡ readText p) (w : Written d at (readLine 112 (x .number) (x .place)) n e) where
+  module _ (p : List ℕ) (x : TextRead) (q : x ≡ readText p) (w : Written d at (readLine 112 (x .number) (x .offset)) n e) where
     pub stepped-end : (v : List ℕ) → Valid v → (x .number ≡ 0 → ⊥) → Stepped d at (textTurn (tableIn v) p) (record { phase = Ended; at = n }) v e
     unfolding textTurn
     stepped-end v k h =
         let m = ap (λ (y : TextRead). y .number) q in
-        record { put = written-as w (ap (λ (z : TextRead). readLine 112 (z .number) (z .place)) q); next = rw (ne-eqb (readText p .number) 0 (λ z. h (m ∙ z))); kept = k }
+        record { put = written-as w (ap (λ (z : TextRead). readLine 112 (z .number) (z .offset)) q); next = rw (ne-eqb (readText p .number) 0 (λ z. h (m ∙ z))); kept = k }
 
     -- the words of the fresh table are copied
     pub stepped-begin : (t : Table) {m : ℕ} {y v : List ℕ} → x .number ≡ 0 → Told (freshTable (x .esi)) m 0 y → Valid y → v ≡ y
@@ -72,7 +72,7 @@ module _ {d : List ℕ} {at n : ℕ} {e : List ℕ} where
         let o = ap (λ (z : TextRead). z .number) q in
         let i = ap (λ (z : TextRead). z .esi) q in
         record {
-          put = written-as w (ap (λ (z : TextRead). readLine 112 (z .number) (z .place)) q);
+          put = written-as w (ap (λ (z : TextRead). readLine 112 (z .number) (z .offset)) q);
           next = rw (eq-eqb (readText p .number) 0 (sym o ∙ h), ← i, ← (f .2)) (ap (stateIn Running) c);
           kept = subst Valid (sym c) k;
         }

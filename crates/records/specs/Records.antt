@@ -3,9 +3,9 @@
 --   Bench              == the state of a run: its phase and its table
 --   Turn               == what one record does: the line that is printed, and the state after it
 --   line c n           == the line of the letter c and the number n
---   placeLine c n p    == the line of the letter c, the number n and the place p
---   hasPlace n         == whether a place is printed after the number n: after 1 to 4, 6 and 13 (document 02, M-103)
---   readLine c n p     == the line of the letter c for what was read: the number n, and the place p where one is printed
+--   offsetLine c n p    == the line of the letter c, the number n and the offset p
+--   hasOffset n         == whether a offset is printed after the number n: after 1 to 4, 6 and 13 (document 02, M-103)
+--   readLine c n p     == the line of the letter c for what was read: the number n, and the offset p where one is printed
 --   badLine            == the line `x 16`
 --   electedLine a n    == the line of an accepted query
 --   queryLine r        == the line of the election's answer r
@@ -58,14 +58,14 @@ pub record Turn : Type 0 where
 unfoldable pub line : ℕ → ℕ → List ℕ
 line c n = (c ∷ []) ++ ((32 ∷ []) ++ (decimal n ++ (10 ∷ [])))
 
-unfoldable pub placeLine : ℕ → ℕ → ℕ → List ℕ
-placeLine c n p = (c ∷ []) ++ ((32 ∷ []) ++ (decimal n ++ ((32 ∷ []) ++ (decimal p ++ (10 ∷ [])))))
+unfoldable pub offsetLine : ℕ → ℕ → ℕ → List ℕ
+offsetLine c n p = (c ∷ []) ++ ((32 ∷ []) ++ (decimal n ++ ((32 ∷ []) ++ (decimal p ++ (10 ∷ [])))))
 
-unfoldable pub hasPlace : ℕ → Bool
-hasPlace n = (leb 1 n && leb n 4) || (eqb n 6 || eqb n 13)
+unfoldable pub hasOffset : ℕ → Bool
+hasOffset n = (leb 1 n && leb n 4) || (eqb n 6 || eqb n 13)
 
 unfoldable pub readLine : ℕ → ℕ → ℕ → List ℕ
-readLine c n p = cond (hasPlace n) (placeLine c n p) (line c n)
+readLine c n p = cond (hasOffset n) (offsetLine c n p) (line c n)
 
 abbrev pub badLine : List ℕ
 badLine = 120 ∷ 32 ∷ 49 ∷ 54 ∷ 10 ∷ []
@@ -94,13 +94,13 @@ refused t = record { line = badLine; next = ended t }
 -- a refused plate prints its line and ends
 unfoldable pub textTurn : Table → List ℕ → Turn
 textTurn t p = record {
-  line = readLine 112 (readText p .number) (readText p .place);
+  line = readLine 112 (readText p .number) (readText p .offset);
   next = cond (eqb (readText p .number) 0) (running (freshTable (readText p .esi) .table)) (ended t);
 }
 
 unfoldable pub announceTurn : Table → List ℕ → Turn
 announceTurn t p = record {
-  line = readLine 97 (announced t (take 25 p) (drop 25 p) .number) (announced t (take 25 p) (drop 25 p) .place);
+  line = readLine 97 (announced t (take 25 p) (drop 25 p) .number) (announced t (take 25 p) (drop 25 p) .offset);
   next = running (announced t (take 25 p) (drop 25 p) .table);
 }
 

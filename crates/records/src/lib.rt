@@ -11,8 +11,8 @@ ghost use Rattle.lines.specs.Lines.{Put};
 ghost use Rattle.records.specs.Records.{
   badLine,
   line,
-  placeLine,
-  hasPlace,
+  offsetLine,
+  hasOffset,
   readLine,
   electedLine,
   queryLine,
@@ -35,7 +35,7 @@ pub enum Phase {
     Ended,
 }
 
-// The phase after a record, and the place after its line.
+// The phase after a record, and the offset after its line.
 pub struct Step {
     pub phase: Phase,
     pub at: usize,
@@ -61,22 +61,22 @@ fn put_line(out: &mut [u8], at: usize, letter: u8, number: u8) -> usize
     lines::put_octet(out, end, b'\n')
 }
 
-// Puts the line of a letter, a number and a place.
-fn put_place(out: &mut [u8], at: usize, letter: u8, number: u8, place: usize) -> usize
+// Puts the line of a letter, a number and a offset.
+fn put_offset(out: &mut [u8], at: usize, letter: u8, number: u8, offset: usize) -> usize
     requires { ⌜ at + 40 ≤ length (now out) ⌝ }
-    ensures { λ r. ⌜ Written (now (out .entry)) at (placeLine letter number place) r (now (out .exit)) ⌝ }
+    ensures { λ r. ⌜ Written (now (out .entry)) at (offsetLine letter number offset) r (now (out .exit)) ⌝ }
 {
     let mut end = lines::put_octet(out, at, letter);
     end = lines::put_octet(out, end, b' ');
     end = lines::put_decimal(out, end, number as u64);
     end = lines::put_octet(out, end, b' ');
-    end = lines::put_decimal(out, end, place as u64);
+    end = lines::put_decimal(out, end, offset as u64);
     lines::put_octet(out, end, b'\n')
 }
 
-// Whether a place is printed after a number: after 1 to 4, 6 and 13.
-fn has_place(number: u8) -> bool
-    ensures { λ r. ⌜ r ≡ hasPlace number ⌝ }
+// Whether a offset is printed after a number: after 1 to 4, 6 and 13.
+fn has_offset(number: u8) -> bool
+    ensures { λ r. ⌜ r ≡ hasOffset number ⌝ }
 {
     match number {
         1..=4 => true,
@@ -86,13 +86,13 @@ fn has_place(number: u8) -> bool
     }
 }
 
-// Puts the line for what was read: its number, and its place where one is printed.
-fn put_read(out: &mut [u8], at: usize, letter: u8, number: u8, place: usize) -> usize
+// Puts the line for what was read: its number, and its offset where one is printed.
+fn put_read(out: &mut [u8], at: usize, letter: u8, number: u8, offset: usize) -> usize
     requires { ⌜ at + 40 ≤ length (now out) ⌝ }
-    ensures { λ r. ⌜ Written (now (out .entry)) at (readLine letter number place) r (now (out .exit)) ⌝ }
+    ensures { λ r. ⌜ Written (now (out .entry)) at (readLine letter number offset) r (now (out .exit)) ⌝ }
 {
-    if has_place(number) {
-        return put_place(out, at, letter, number, place);
+    if has_offset(number) {
+        return put_offset(out, at, letter, number, offset);
     }
     put_line(out, at, letter, number)
 }
@@ -123,7 +123,7 @@ fn put_answer(out: &mut [u8], at: usize, r: Answer) -> usize
     put_elected(out, at, address, n)
 }
 
-// Puts the line of a bad record, `x 16`, from place `at` on and answers the place after it; where it does not fit, the buffer stays as it is and the
+// Puts the line of a bad record, `x 16`, from offset `at` on and answers the offset after it; where it does not fit, the buffer stays as it is and the
 // answer is `at`.
 pub fn put_bad(out: &mut [u8], at: usize) -> usize
     ensures { λ r. ⌜ Put (now (out .entry)) at badLine r (now (out .exit)) ⌝ }
@@ -162,8 +162,8 @@ fn begin(t: &mut [u32], text: &[u8], out: &mut [u8], at: usize) -> Step
 {
     let read = esi::read_text(text);
     let number = read.number;
-    let place = read.place;
-    let end = put_read(out, at, b'p', number, place);
+    let offset = read.offset;
+    let end = put_read(out, at, b'p', number, offset);
     if number != 0 {
         return Step {
             phase: Phase::Ended,
@@ -187,8 +187,8 @@ fn announce(t: &mut [u32], payload: &[u8], out: &mut [u8], at: usize) -> Step
 {
     let verdict = segment::announce(t, &payload[..25], &payload[25..]);
     let number = verdict.number;
-    let place = verdict.place;
-    let end = put_read(out, at, b'a', number, place);
+    let offset = verdict.offset;
+    let end = put_read(out, at, b'a', number, offset);
     Step {
         phase: Phase::Running,
         at: end,
@@ -296,7 +296,7 @@ fn carry_out(
     }
 }
 
-// One whole record, in any state: its line is put from place `at` on. Where fewer than 40 octets are left there, or where the payload has more than
+// One whole record, in any state: its line is put from offset `at` on. Where fewer than 40 octets are left there, or where the payload has more than
 // 255 octets, which no frame holds, nothing is done: the answer is `phase` and `at`, and the table and the buffer stay as they are.
 pub fn take_turn(
     t: &mut [u32],

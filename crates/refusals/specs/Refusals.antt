@@ -2,16 +2,16 @@
 use Prim.Native.Nat.{ℕ}
 
 -- a route's length
-abbrev pub routeLength : ℕ
-routeLength = 1
+abbrev pub wrongLength : ℕ
+wrongLength = 1
 
 -- not route type 4
-abbrev pub routeType : ℕ
-routeType = 2
+abbrev pub wrongType : ℕ
+wrongType = 2
 
 -- an address length that is not 32
-abbrev pub addressLength : ℕ
-addressLength = 3
+abbrev pub wrongAddressLength : ℕ
+wrongAddressLength = 3
 
 -- an identifier that is reserved, or not ten octets
 abbrev pub esiReserved : ℕ

@@ -1,13 +1,13 @@
 // The refusal numbers (document 01, "Refusal numbers", and the requests of document 02). 0 is no refusal.
 
 // A route's length.
-pub const ROUTE_LENGTH: u8 = 1;
+pub const WRONG_LENGTH: u8 = 1;
 
 // Not route type 4.
-pub const ROUTE_TYPE: u8 = 2;
+pub const WRONG_TYPE: u8 = 2;
 
 // An address length that is not 32.
-pub const ADDRESS_LENGTH: u8 = 3;
+pub const WRONG_ADDRESS_LENGTH: u8 = 3;
 
 // An identifier that is reserved, or not ten octets.
 pub const ESI_RESERVED: u8 = 4;

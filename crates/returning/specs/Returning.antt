@@ -16,6 +16,7 @@ use Rattle.keyed.specs.Keyed.{remove}
 use Rattle.layout.specs.Table.{Entry, entryKey, noEntry}
 use Rattle.choice.specs.Choice.{bestOf}
 use Rattle.winner.specs.Winner.{better}
+use Rattle.refusals.specs.Refusals.{algorithmNotUsable, addressZero}
 use Rattle.returning.specs.declared.Sent.{Sent}
 
 abbrev pub others : ℕ → List Entry → List Entry
@@ -43,4 +44,4 @@ advertised g p d os =
 -- 15 for an algorithm that is not 2 or 3, then 6 for address zero
 unfoldable pub returningOf : List Entry → ℕ → ℕ → ℕ → Bool → Sent
 returningOf l a g p d =
-    cond (not (eqb g 2 || eqb g 3)) (sent 15 0 false) (cond (isZero a) (sent 6 0 false) (advertised g p d (others a l)))
+    cond (not (eqb g 2 || eqb g 3)) (sent algorithmNotUsable 0 false) (cond (isZero a) (sent addressZero 0 false) (advertised g p d (others a l)))

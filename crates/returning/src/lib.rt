@@ -1,5 +1,7 @@
 // The preference and the DP bit that a router advertises when it comes back from repair (RFC 9785, section 4.3).
 use address::Address;
+use refusals::ADDRESS_ZERO;
+use refusals::ALGORITHM_NOT_USABLE;
 use rows::Found;
 ghost use mathlib.Core.Path.{_≡_};
 ghost use mathlib.Core.Bool.{false};
@@ -17,11 +19,6 @@ pub struct Sent {
     pub preference: u16,
     pub dp: bool,
 }
-
-// The refusals: an own algorithm that is not 2 or 3, then address zero.
-const ALGORITHM_NOT_USABLE: u8 = 15;
-
-const ADDRESS_ZERO: u8 = 6;
 
 // The places of the other routes: all places in use but that of the own address.
 fn others(t: &[u32], address: Address) -> u64

@@ -15,29 +15,29 @@ use Rattle.octets.proofs.Laws.{elements, take-elements, length-octets, number-o
 use Rattle.address.specs.Address.{isZero}
 use Rattle.esi.specs.Reserved.{reserved}
 use Rattle.esi.proofs.Laws.{length-not-reserved}
-use Rattle.route.specs.Route.{routeDistinguisher, routeEsi, routeAddress, routeNumber, placeOf, routePlace, Fault, none, total, lengthOctet, type, bits, identifier, zeroAddress, checkedNumber, checkedPlace, checkedAddress, routeValue, routeChecked, readAs, readRoute, routeOctets, writeRouteNumber, routeWritten}
+use Rattle.route.specs.Route.{routeDistinguisher, routeEsi, routeAddress, routeNumber, offsetOf, routeOffset, Fault, none, total, lengthOctet, type, bits, identifier, zeroAddress, checkedNumber, checkedOffset, checkedAddress, routeValue, routeChecked, readAs, readRoute, routeOctets, writeRouteNumber, routeWritten}
 use Rattle.route.specs.declared.RouteRead.{RouteRead}
 use Rattle.route.specs.declared.Checked.{Checked}
 use Rattle.route.specs.declared.Checked.the-variants.{Originator, Refused}
 
 -- WHAT THE PLACE OF EVERY ROUTE TELLS
 module _ (s : List ℕ) where
-  fault-total : (length s ≡ 25 → ⊥) → Fault s 1 (placeOf 1 s)
-  unfolding placeOf
+  fault-total : (length s ≡ 25 → ⊥) → Fault s 1 (offsetOf 1 s)
+  unfolding offsetOf
   fault-total n = rw (ne-eqb (length s) 25 n) (total refl refl n)
 
-  fault-length : (not (eqb (length s) 25) || not (eqb (getD s 1 0) 23)) ≡ true → Fault s 1 (placeOf 1 s)
-  unfolding placeOf
+  fault-length : (not (eqb (length s) 25) || not (eqb (getD s 1 0) 23)) ≡ true → Fault s 1 (offsetOf 1 s)
+  unfolding offsetOf
   fault-length = go (eqb (length s) 25) refl
     where
       go : (b : Bool) → eqb (length s) 25 ≡ b → (not b || not (eqb (getD s 1 0) 23)) ≡ true → Fault s 1 (cond b 1 (length s))
       go true e h = lengthOctet refl refl (eqb-true _ _ e) (not-eq h)
       go false e h = total refl refl (eqb-false _ _ e)
 
-  pub route-fault : Fault s (routeNumber s) (routePlace s)
-  unfolding routeNumber placeOf routeEsi routeAddress
+  pub route-fault : Fault s (routeNumber s) (routeOffset s)
+  unfolding routeNumber offsetOf routeEsi routeAddress
   route-fault =
-      each (λ (n : ℕ). Fault s n (placeOf n s)) _
+      each (λ (n : ℕ). Fault s n (offsetOf n s)) _
       (λ h. fault-total (λ e. omega (arith, ltb-true (length s) 21 h)), (λ h. type refl refl (not-eq h), (λ h. bits refl refl (not-eq h), (fault-length, (identifier refl refl, (zeroAddress refl refl, none refl refl))))))
 
 -- WHAT THE CHECK ANSWERS
@@ -46,21 +46,21 @@ module _ (s : List ℕ) where
   Answers c =
       (c ≡ routeChecked s)
       × ((checkedNumber c ≡ routeNumber s)
-      × ((checkedPlace c ≡ routePlace s)
-      × ((checkedAddress c ≡ routeValue s) × Fault s (checkedNumber c) (checkedPlace c))))
+      × ((checkedOffset c ≡ routeOffset s)
+      × ((checkedAddress c ≡ routeValue s) × Fault s (checkedNumber c) (checkedOffset c))))
 
-  refused : (n p : ℕ) → suc n ≡ routeNumber s → p ≡ placeOf (suc n) s → Answers (Refused (suc n) p)
+  refused : (n p : ℕ) → suc n ≡ routeNumber s → p ≡ offsetOf (suc n) s → Answers (Refused (suc n) p)
   unfolding routeChecked routeValue
   refused n p e q =
       let no = ne-eqb (suc n) 0 (λ z. omega arith) in
-      (rw (← e, q, no), (e, (q ∙ ap (λ (m : ℕ). placeOf m s) e, (rw (← e, no), rw (q, e) (route-fault s)))))
+      (rw (← e, q, no), (e, (q ∙ ap (λ (m : ℕ). offsetOf m s) e, (rw (← e, no), rw (q, e) (route-fault s)))))
 
   accepted : (a : ℕ) → a ≡ routeAddress s → 0 ≡ routeNumber s → Answers (Originator a)
-  unfolding routeChecked routeValue placeOf
+  unfolding routeChecked routeValue offsetOf
   accepted a q e = (rw (← e, q), (e, (rw (← e), (rw (← e, q), none refl refl))))
 
   wrong-total : (length s ≡ 25 → ⊥) → 1 ≡ routeNumber s → Answers (Refused 1 (length s))
-  unfolding placeOf
+  unfolding offsetOf
   wrong-total n e = refused 0 (length s) e (rw (ne-eqb (length s) 25 n))
 
   pub short : length s < 21 → Answers (Refused 1 (length s))
@@ -69,12 +69,12 @@ module _ (s : List ℕ) where
 
   module _ (l : 21 ≤ length s) where
     pub not-type : (getD s 0 0 ≡ 4 → ⊥) → Answers (Refused 2 0)
-    unfolding routeNumber placeOf
+    unfolding routeNumber offsetOf
     not-type n = refused 1 0 (refused-at 1 _ (le-ltb _ _ l, tt) (ne-not n)) refl
 
     module _ (t : getD s 0 0 ≡ 4) where
       pub not-bits : (getD s 20 0 ≡ 32 → ⊥) → Answers (Refused 3 20)
-      unfolding routeNumber placeOf
+      unfolding routeNumber offsetOf
       not-bits n = refused 2 20 (refused-at 2 _ (le-ltb _ _ l, (eq-not t, tt)) (ne-not n)) refl
 
       module _ (b : getD s 20 0 ≡ 32) where
@@ -84,13 +84,13 @@ module _ (s : List ℕ) where
 
         module _ (w : length s ≡ 25) where
           pub not-length : (getD s 1 0 ≡ 23 → ⊥) → Answers (Refused 1 1)
-          unfolding routeNumber placeOf
+          unfolding routeNumber offsetOf
           not-length n =
               refused 0 1 (refused-at 3 _ (le-ltb _ _ l, (eq-not t, (eq-not b, tt))) (rw (eq-not w) (ne-not n))) (rw (eq-eqb (length s) 25 w))
 
           module _ (m : getD s 1 0 ≡ 23) where
             pub reserved-esi : reserved (take 10 (drop 10 s)) ≡ true → Answers (Refused 4 10)
-            unfolding routeNumber routeEsi placeOf
+            unfolding routeNumber routeEsi offsetOf
             reserved-esi r = refused 3 10 (refused-at 4 _ (le-ltb _ _ l, (eq-not t, (eq-not b, (rw (eq-not w) (eq-not m), tt)))) r) refl
 
             module _ (r : reserved (take 10 (drop 10 s)) ≡ false) (a : ℕ) (q : a ≡ numberOf (elements 4 21 s)) where
@@ -99,7 +99,7 @@ module _ (s : List ℕ) where
               is-address = q ∙ ap numberOf (sym (take-elements 4 21 s (omega arith)))
 
               pub zero-address : isZero a ≡ true → Answers (Refused 6 21)
-              unfolding routeNumber routeEsi placeOf
+              unfolding routeNumber routeEsi offsetOf
               zero-address z =
                   refused 5 21 (refused-at 5 _ (le-ltb _ _ l, (eq-not t, (eq-not b, (rw (eq-not w) (eq-not m), (r, tt))))) (rw (← is-address) z)) refl
 
@@ -135,21 +135,21 @@ refused-told n p a m q true h = let z : _≡_ {A = ℕ} 0 1 = cc in absurd (omeg
 refused-told n p a m q false h = (refl, (cc, cc))
 
 module _ (s : List ℕ) where
-  -- an accepted route has place 0
-  pub place-accepted : routeNumber s ≡ 0 → routePlace s ≡ 0
-  unfolding placeOf
-  place-accepted h = rw h
+  -- an accepted route has offset 0
+  pub offset-accepted : routeNumber s ≡ 0 → routeOffset s ≡ 0
+  unfolding offsetOf
+  offset-accepted h = rw h
 
   pub told-originator : (a : ℕ) → routeChecked s ≡ Originator a → (routeNumber s ≡ 0) × (a ≡ routeAddress s)
   unfolding routeChecked
   told-originator a h =
-      let t = originator-told (routeNumber s) (routePlace s) (routeAddress s) a (eqb (routeNumber s) 0) h in
+      let t = originator-told (routeNumber s) (routeOffset s) (routeAddress s) a (eqb (routeNumber s) 0) h in
       (eqb-true (routeNumber s) 0 (t .0), t .1)
 
-  pub told-refused : (n p : ℕ) → routeChecked s ≡ Refused n p → (routeNumber s ≡ 0 → ⊥) × ((n ≡ routeNumber s) × (p ≡ routePlace s))
+  pub told-refused : (n p : ℕ) → routeChecked s ≡ Refused n p → (routeNumber s ≡ 0 → ⊥) × ((n ≡ routeNumber s) × (p ≡ routeOffset s))
   unfolding routeChecked
   told-refused n p h =
-      let t = refused-told (routeNumber s) (routePlace s) (routeAddress s) n p (eqb (routeNumber s) 0) h in
+      let t = refused-told (routeNumber s) (routeOffset s) (routeAddress s) n p (eqb (routeNumber s) 0) h in
       (eqb-false (routeNumber s) 0 (t .0), t .1)
 
   -- WHAT THE READER ANSWERS
@@ -157,15 +157,15 @@ module _ (s : List ℕ) where
   unfolding readRoute
   read-refused n p h = let t = told-refused n p h in rw (ne-eqb (routeNumber s) 0 (t .0), t .1 .0, t .1 .1)
 
-  -- the same with what the place tells, from the check's answer
+  -- the same with what the offset tells, from the check's answer
   abbrev pub Reads : RouteRead → Type 0
-  Reads x = (x ≡ readRoute s) × Fault s (x .number) (x .place)
+  Reads x = (x ≡ readRoute s) × Fault s (x .number) (x .offset)
 
-  pub reads-refused : (k : Checked) (n p m q : ℕ) → Answers s k → k ≡ Refused n p → m ≡ checkedNumber k → q ≡ checkedPlace k
+  pub reads-refused : (k : Checked) (n p m q : ℕ) → Answers s k → k ≡ Refused n p → m ≡ checkedNumber k → q ≡ checkedOffset k
       → Reads (readAs m q (replicate 8 0) (replicate 10 0) 0)
   reads-refused k n p m q a t e f =
       let e' : m ≡ n = e ∙ ap checkedNumber t in
-      let f' : q ≡ p = f ∙ ap checkedPlace t in
+      let f' : q ≡ p = f ∙ ap checkedOffset t in
       (rw (e', f') (read-refused n p (sym (a .0) ∙ t)), rw (e, f) (a .1 .1 .1 .1))
 
   read-accepted : (a : ℕ) (d e : List ℕ) → routeChecked s ≡ Originator a

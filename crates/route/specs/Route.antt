@@ -2,11 +2,11 @@
 -- 10 to 19 the segment identifier (ESI); 20 the address length in bits, 32; 21 to 24 the originator's address, high octet first.
 --   routeDistinguisher s, routeEsi s, routeAddress s  == the three fields of the route s
 --   routeNumber s             == 0, or the number of the first check that refuses the route s
---   placeOf n s               == the place that the number n speaks of in the route s (document 02, M-103)
---   routePlace s              == the place that the route's number speaks of
---   Fault s n p               == what the number n and the place p tell of the route s: what stands at p is wrong
+--   offsetOf n s               == the offset that the number n speaks of in the route s (document 02, M-103)
+--   routeOffset s              == the offset that the route's number speaks of
+--   Fault s n p               == what the number n and the offset p tell of the route s: what stands at p is wrong
 --   checkedNumber c           == document 01's number for each case of the check's answer
---   checkedPlace c            == the place for each case: 0 with an address
+--   checkedOffset c            == the offset for each case: 0 with an address
 --   checkedAddress c          == document 01's value for each case: the originator's address, or zero with a refusal
 --   routeValue s              == document 01's value for the route s: its address where it is accepted, else zero
 --   routeChecked s            == the check's answer
@@ -25,6 +25,7 @@ use Rattle.lists.specs.Checks.{firstRefusal}
 use Rattle.octets.specs.Octets.{numberOf, octetsOf}
 use Rattle.address.specs.Address.{isZero}
 use Rattle.esi.specs.Reserved.{reserved}
+use Rattle.refusals.specs.Refusals.{wrongLength, wrongType, wrongAddressLength, esiReserved, addressZero, bufferShort}
 use Rattle.route.specs.declared.Checked.{Checked}
 use Rattle.route.specs.declared.Checked.the-variants.{Originator, Refused}
 use Rattle.route.specs.declared.RouteRead.{RouteRead}
@@ -42,44 +43,44 @@ routeAddress s = numberOf (take 4 (drop 21 s))
 unfoldable pub routeNumber : List ℕ → ℕ
 routeNumber s =
     firstRefusal (
-    (ltb (length s) 21, 1)
-    ∷ (not (eqb (getD s 0 0) 4), 2)
-    ∷ (not (eqb (getD s 20 0) 32), 3)
-    ∷ (not (eqb (length s) 25) || not (eqb (getD s 1 0) 23), 1)
-    ∷ (reserved (routeEsi s), 4)
-    ∷ (isZero (routeAddress s), 6)
+    (ltb (length s) 21, wrongLength)
+    ∷ (not (eqb (getD s 0 0) 4), wrongType)
+    ∷ (not (eqb (getD s 20 0) 32), wrongAddressLength)
+    ∷ (not (eqb (length s) 25) || not (eqb (getD s 1 0) 23), wrongLength)
+    ∷ (reserved (routeEsi s), esiReserved)
+    ∷ (isZero (routeAddress s), addressZero)
     ∷ []
     )
 
 -- for 1 the number of octets where that is wrong, else 1, the length octet; 0 for 2, 20 for 3, 10 for 4, 21 for 6; 0 if accepted
-unfoldable pub placeOf : ℕ → List ℕ → ℕ
-placeOf n s =
-    cond (eqb n 1) (cond (eqb (length s) 25) 1 (length s))
-    (cond (eqb n 3) 20
-    (cond (eqb n 4) 10
-    (cond (eqb n 6) 21
+unfoldable pub offsetOf : ℕ → List ℕ → ℕ
+offsetOf n s =
+    cond (eqb n wrongLength) (cond (eqb (length s) 25) 1 (length s))
+    (cond (eqb n wrongAddressLength) 20
+    (cond (eqb n esiReserved) 10
+    (cond (eqb n addressZero) 21
     0)))
 
-abbrev pub routePlace : List ℕ → ℕ
-routePlace s = placeOf (routeNumber s) s
+abbrev pub routeOffset : List ℕ → ℕ
+routeOffset s = offsetOf (routeNumber s) s
 
--- what the place tells the person who looks at the octets: one case for each row of the rule
+-- what the offset tells the person who looks at the octets: one case for each row of the rule
 pub data Fault (s : List ℕ) (n p : ℕ) : Type 0 where
   none : n ≡ 0 → p ≡ 0 → Fault s n p
-  total : n ≡ 1 → p ≡ length s → (length s ≡ 25 → ⊥) → Fault s n p
-  lengthOctet : n ≡ 1 → p ≡ 1 → length s ≡ 25 → (getD s p 0 ≡ 23 → ⊥) → Fault s n p
-  type : n ≡ 2 → p ≡ 0 → (getD s p 0 ≡ 4 → ⊥) → Fault s n p
-  bits : n ≡ 3 → p ≡ 20 → (getD s p 0 ≡ 32 → ⊥) → Fault s n p
-  identifier : n ≡ 4 → p ≡ 10 → reserved (take 10 (drop p s)) ≡ true → Fault s n p
-  zeroAddress : n ≡ 6 → p ≡ 21 → isZero (numberOf (take 4 (drop p s))) ≡ true → Fault s n p
+  total : n ≡ wrongLength → p ≡ length s → (length s ≡ 25 → ⊥) → Fault s n p
+  lengthOctet : n ≡ wrongLength → p ≡ 1 → length s ≡ 25 → (getD s p 0 ≡ 23 → ⊥) → Fault s n p
+  type : n ≡ wrongType → p ≡ 0 → (getD s p 0 ≡ 4 → ⊥) → Fault s n p
+  bits : n ≡ wrongAddressLength → p ≡ 20 → (getD s p 0 ≡ 32 → ⊥) → Fault s n p
+  identifier : n ≡ esiReserved → p ≡ 10 → reserved (take 10 (drop p s)) ≡ true → Fault s n p
+  zeroAddress : n ≡ addressZero → p ≡ 21 → isZero (numberOf (take 4 (drop p s))) ≡ true → Fault s n p
 
 abbrev pub checkedNumber : Checked → ℕ
 checkedNumber (Originator a) = 0
 checkedNumber (Refused n p) = n
 
-abbrev pub checkedPlace : Checked → ℕ
-checkedPlace (Originator a) = 0
-checkedPlace (Refused n p) = p
+abbrev pub checkedOffset : Checked → ℕ
+checkedOffset (Originator a) = 0
+checkedOffset (Refused n p) = p
 
 abbrev pub checkedAddress : Checked → ℕ
 checkedAddress (Originator a) = a
@@ -89,17 +90,17 @@ unfoldable pub routeValue : List ℕ → ℕ
 routeValue s = cond (eqb (routeNumber s) 0) (routeAddress s) 0
 
 unfoldable pub routeChecked : List ℕ → Checked
-routeChecked s = cond (eqb (routeNumber s) 0) (Originator (routeAddress s)) (Refused (routeNumber s) (routePlace s))
+routeChecked s = cond (eqb (routeNumber s) 0) (Originator (routeAddress s)) (Refused (routeNumber s) (routeOffset s))
 
--- a refusal's other numbers are zero, but for the place
+-- a refusal's other numbers are zero, but for the offset
 abbrev pub readAs : ℕ → ℕ → List ℕ → List ℕ → ℕ → RouteRead
-readAs n p d e a = record { number = n; place = p; distinguisher = d; esi = e; address = a }
+readAs n p d e a = record { number = n; offset = p; distinguisher = d; esi = e; address = a }
 
 unfoldable pub readRoute : List ℕ → RouteRead
 readRoute s =
     cond (eqb (routeNumber s) 0)
     (readAs 0 0 (routeDistinguisher s) (routeEsi s) (routeAddress s))
-    (readAs (routeNumber s) (routePlace s) (replicate 8 0) (replicate 10 0) 0)
+    (readAs (routeNumber s) (routeOffset s) (replicate 8 0) (replicate 10 0) 0)
 
 -- WRITING
 unfoldable pub routeOctets : List ℕ → List ℕ → ℕ → List ℕ
@@ -108,10 +109,10 @@ routeOctets d e a = 4 ∷ 23 ∷ d ++ (e ++ 32 ∷ octetsOf 4 a)
 unfoldable pub writeRouteNumber : List ℕ → List ℕ → ℕ → ℕ → ℕ
 writeRouteNumber d e a n =
     firstRefusal (
-    (not (eqb (length d) 8), 1)
-    ∷ (reserved e, 4)
-    ∷ (isZero a, 6)
-    ∷ (ltb n 25, 14)
+    (not (eqb (length d) 8), wrongLength)
+    ∷ (reserved e, esiReserved)
+    ∷ (isZero a, addressZero)
+    ∷ (ltb n 25, bufferShort)
     ∷ []
     )
 

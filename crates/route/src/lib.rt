@@ -1,14 +1,20 @@
 // The Ethernet Segment route of RFC 7432: checking one, reading its fields, and writing one.
 use address::Address;
+use refusals::WRONG_ADDRESS_LENGTH;
+use refusals::ADDRESS_ZERO;
+use refusals::BUFFER_SHORT;
+use refusals::ESI_RESERVED;
+use refusals::WRONG_LENGTH;
+use refusals::WRONG_TYPE;
 ghost use mathlib.Core.Path.{_≡_};
 ghost use lib.ListN.{length, take};
 ghost use Rattle.route.specs.Route.{
   Fault,
   checkedNumber,
-  checkedPlace,
+  checkedOffset,
   checkedAddress,
   routeNumber,
-  routePlace,
+  routeOffset,
   routeValue,
   routeChecked,
   readAs,
@@ -20,34 +26,16 @@ ghost use Rattle.route.specs.Route.{
 // How many octets a route has.
 const ROUTE_LENGTH: usize = 25;
 
-// Refusal numbers of document 01: a wrong length of the route, or in writing one of its distinguisher,
-const WRONG_LENGTH: u8 = 1;
-
-// another type than 4,
-const WRONG_TYPE: u8 = 2;
-
-// an address length other than 32 bits,
-const WRONG_BITS: u8 = 3;
-
-// an identifier that is reserved or not ten octets,
-const ESI_RESERVED: u8 = 4;
-
-// address zero,
-const ADDRESS_ZERO: u8 = 6;
-
-// and a buffer that is too short.
-const BUFFER_SHORT: u8 = 14;
-
-// The answer of the check: the originator's address, or a refusal number and the place that it speaks of.
+// The answer of the check: the originator's address, or a refusal number and the offset that it speaks of.
 pub enum Checked {
     Originator(Address),
     Refused(u8, usize),
 }
 
-// The answer of the reader: 0, place 0 and the fields, or a refusal number, its place and zeros.
+// The answer of the reader: 0, offset 0 and the fields, or a refusal number, its offset and zeros.
 pub struct RouteRead {
     pub number: u8,
-    pub place: usize,
+    pub offset: usize,
     pub distinguisher: [u8; 8],
     pub esi: [u8; 10],
     pub address: Address,
@@ -63,9 +51,9 @@ pub fn number(c: Checked) -> u8
     }
 }
 
-// The place of a check's answer: 0 for an address.
-pub fn place(c: Checked) -> usize
-    ensures { λ r. ⌜ r ≡ checkedPlace c ⌝ }
+// The offset of a check's answer: 0 for an address.
+pub fn offset(c: Checked) -> usize
+    ensures { λ r. ⌜ r ≡ checkedOffset c ⌝ }
 {
     match c {
         Checked::Originator(_) => 0,
@@ -74,15 +62,15 @@ pub fn place(c: Checked) -> usize
 }
 
 // Checks a route, in document 01's order: fewer than 21 octets, 1; type not 4, 2; address length not 32, 3; not 25 octets or length octet
-// not 23, 1; identifier reserved, 4; address zero, 6. Otherwise the answer is the originator's address. With a refusal comes the place of what is
+// not 23, 1; identifier reserved, 4; address zero, 6. Otherwise the answer is the originator's address. With a refusal comes the offset of what is
 // wrong: for 1 the number of octets where that is wrong, else the length octet; 0 for 2, 20 for 3, 10 for 4, 21 for 6. By the three definitions of
-// what each case says, the answer's number, place and address are document 01's: with a refusal the address is zero.
+// what each case says, the answer's number, offset and address are document 01's: with a refusal the address is zero.
 pub fn check(s: &[u8]) -> Checked
     ensures { λ r. ⌜ r ≡ routeChecked (now (s .entry)) ⌝ }
     ensures numbered { λ r. ⌜ checkedNumber r ≡ routeNumber (now (s .entry)) ⌝ }
-    ensures placed { λ r. ⌜ checkedPlace r ≡ routePlace (now (s .entry)) ⌝ }
+    ensures placed { λ r. ⌜ checkedOffset r ≡ routeOffset (now (s .entry)) ⌝ }
     ensures valued { λ r. ⌜ checkedAddress r ≡ routeValue (now (s .entry)) ⌝ }
-    ensures fault { λ r. ⌜ Fault (now (s .entry)) (checkedNumber r) (checkedPlace r) ⌝ }
+    ensures fault { λ r. ⌜ Fault (now (s .entry)) (checkedNumber r) (checkedOffset r) ⌝ }
 {
     if s.len() < 21 {
         return Checked::Refused(WRONG_LENGTH, s.len());
@@ -91,7 +79,7 @@ pub fn check(s: &[u8]) -> Checked
         return Checked::Refused(WRONG_TYPE, 0);
     }
     if s[20] != 32 {
-        return Checked::Refused(WRONG_BITS, 20);
+        return Checked::Refused(WRONG_ADDRESS_LENGTH, 20);
     }
     if s.len() != ROUTE_LENGTH {
         return Checked::Refused(WRONG_LENGTH, s.len());
@@ -109,20 +97,20 @@ pub fn check(s: &[u8]) -> Checked
     Checked::Originator(a)
 }
 
-// Reads a route: its distinguisher, identifier and originator, or the check's refusal and place with zeros.
+// Reads a route: its distinguisher, identifier and originator, or the check's refusal and offset with zeros.
 pub fn read(s: &[u8]) -> RouteRead
     ensures { λ r. ⌜ r ≡ readRoute (now (s .entry)) ⌝ }
-    ensures fault { λ r. ⌜ Fault (now (s .entry)) (r .number) (r .place) ⌝ }
+    ensures fault { λ r. ⌜ Fault (now (s .entry)) (r .number) (r .offset) ⌝ }
 {
     let mut d = [0u8; 8];
     let mut e = [0u8; 10];
     let checked = check(s);
     let Checked::Originator(a) = checked else {
         let n = number(checked);
-        let p = place(checked);
+        let p = offset(checked);
         return RouteRead {
             number: n,
-            place: p,
+            offset: p,
             distinguisher: d,
             esi: e,
             address: 0,
@@ -132,7 +120,7 @@ pub fn read(s: &[u8]) -> RouteRead
     octets::store(&mut e, 0, &s[10..20]);
     RouteRead {
         number: 0,
-        place: 0,
+        offset: 0,
         distinguisher: d,
         esi: e,
         address: a,

@@ -7,7 +7,7 @@ use Prim.Native.Nat.{ℕ}
 use mathlib.Core.Bool.{Bool, true, false, _&&_}
 use mathlib.Core.List.{List, [], _∷_}
 use Rattle.lists.specs.Lists.{bit}
-use Rattle.octets.specs.Octets.{sameOctets}
+use Rattle.octets.specs.Octets.{sameNumbers}
 use Rattle.community.specs.Community.{electionUnder, communityOctets, readCommunity}
 use Rattle.hrw.specs.Weight.{weightOf}
 use Rattle.winner.specs.Winner.{elected}
@@ -94,4 +94,4 @@ starred =
 
 unfoldable pub allRight : List Value → Bool
 allRight [] = true
-allRight (v ∷ l) = sameOctets (v .computed) (v .right) && allRight l
+allRight (v ∷ l) = sameNumbers (v .computed) (v .right) && allRight l

@@ -33,14 +33,14 @@ pub fn fresh(esi: &[u8]) -> Made
 
 // Announces a route with its communities. The route's own checks come first; then 5 for another identifier, 7 for a list of communities
 // over 256 octets or not a multiple of 8, 8 for a new address where 64 are present. An address that is present has its entry replaced. The
-// place that the route's own checks give is passed on.
+// offset that the route's own checks give is passed on.
 pub fn announce(t: &mut [u32], route: &[u8], communities: &[u8]) -> Verdict
     requires { ⌜ Valid (now t) ⌝ }
-    ensures answer { λ r. ⌜ Told (announced (tableIn (now (t .entry))) (now (route .entry)) (now (communities .entry))) (r .number) (r .place) (now (t .exit)) ⌝ }
+    ensures answer { λ r. ⌜ Told (announced (tableIn (now (t .entry))) (now (route .entry)) (now (communities .entry))) (r .number) (r .offset) (now (t .exit)) ⌝ }
     ensures kept { λ _. ⌜ Valid (now (t .exit)) ⌝ }
     ensures call { λ r. ⌜ calls.Changes (tableIn (now (t .entry))) (calls.announce (now (route .entry)) (now (communities .entry))) (r .number) (tableIn (now (t .exit))) ⌝ }
     ensures follows { λ r. ⌜ Follows (tableIn (now (t .entry))) (calls.announce (now (route .entry)) (now (communities .entry))) (calls.changeReply (r .number)) (tableIn (now (t .exit))) ⌝ }
-    ensures fault { λ r. ⌜ Fault (now (route .entry)) (routeNumber (now (route .entry))) (r .place) ⌝ }
+    ensures fault { λ r. ⌜ Fault (now (route .entry)) (routeNumber (now (route .entry))) (r .offset) ⌝ }
 {
     table::announce(t, route, communities)
 }

@@ -12,15 +12,15 @@ use Rattle.lists.specs.Checks.{firstRefusal}
 use Rattle.lists.specs.Lists.{Every}
 use Rattle.lists.proofs.Bools.{cond-by, eq-not, ne-not}
 use Rattle.lists.proofs.Checks.{passed-on, refused-at, refused-none, passed, telling-own}
-use Rattle.octets.specs.Octets.{sameOctets}
+use Rattle.octets.specs.Octets.{sameNumbers}
 use Rattle.octets.proofs.Laws.{same-equal}
 use Rattle.address.specs.Address.{addressKey, isZero}
 use Rattle.address.proofs.Laws.{not-zero}
 use Rattle.esi.specs.Reserved.{reserved}
-use Rattle.route.specs.Route.{routeEsi, routeAddress, routeNumber, routePlace, Fault, checkedNumber, checkedPlace, routeChecked}
+use Rattle.route.specs.Route.{routeEsi, routeAddress, routeNumber, routeOffset, Fault, checkedNumber, checkedOffset, routeChecked}
 use Rattle.route.specs.declared.Checked.{Checked}
 use Rattle.route.specs.declared.Checked.the-variants.{Originator, Refused}
-use Rattle.route.proofs.Laws.{route-fault, route-esi, route-address, place-accepted, told-originator, told-refused}
+use Rattle.route.proofs.Laws.{route-fault, route-esi, route-address, offset-accepted, told-originator, told-refused}
 use Rattle.community.specs.Community.{listFits, electionIn, readList}
 use Rattle.community.specs.declared.ListRead.{ListRead}
 use Rattle.community.proofs.Laws.{list-refused, list-accepted, election-right}
@@ -35,17 +35,17 @@ use Rattle.table.specs.Table.{Change, announceNumber, withdrawNumber, ch
 use Rattle.table.specs.Steps.{admitted}
 
 abbrev accepted : Table → Change
-accepted t = record { number = 0; place = 0; table = t }
+accepted t = record { number = 0; offset = 0; table = t }
 
 abbrev refused : ℕ → Table → Change
-refused n t = record { number = n; place = 0; table = t }
+refused n t = record { number = n; offset = 0; table = t }
 
--- an answer by its number and place
+-- an answer by its number and offset
 module _ {n p m q : ℕ} (old new : Table) (e : n ≡ m) (f : p ≡ q) where
   alike : changed n p old new ≡ changed m q old new
   alike = rw (e, f)
 
-  refuses : (n ≡ 0 → ⊥) → record { number = n; place = p; table = old } ≡ changed m q old new
+  refuses : (n ≡ 0 → ⊥) → record { number = n; offset = p; table = old } ≡ changed m q old new
   refuses h = rw (← e, ← f, ne-eqb n 0 h)
 
 -- FRESH
@@ -84,35 +84,35 @@ module _ (t : Table) (w : WellFormed t) where
 
   -- ANNOUNCEMENTS
   module _ (r c : List ℕ) where
-    pub announced-refused : (k : Checked) (n p m q : ℕ) → k ≡ routeChecked r → k ≡ Refused n p → m ≡ checkedNumber k → q ≡ checkedPlace k
-        → record { number = m; place = q; table = t } ≡ announced t r c
+    pub announced-refused : (k : Checked) (n p m q : ℕ) → k ≡ routeChecked r → k ≡ Refused n p → m ≡ checkedNumber k → q ≡ checkedOffset k
+        → record { number = m; offset = q; table = t } ≡ announced t r c
     unfolding announced announceNumber
     announced-refused k n p m q e h f g =
         let told = told-refused r n p (sym e ∙ h) in
         let f' : m ≡ routeNumber r = f ∙ ap checkedNumber h ∙ told .1 .0 in
-        let g' : q ≡ routePlace r = g ∙ ap checkedPlace h ∙ told .1 .1 in
+        let g' : q ≡ routeOffset r = g ∙ ap checkedOffset h ∙ told .1 .1 in
         rw (f', g') (refuses t _ (refused-at 0 _ tt (ne-not (told .0))) refl (told .0))
 
-    announced-admitted : routeNumber r ≡ 0 → sameOctets (t .esi) (routeEsi r) ≡ true → listFits c ≡ true → admitted t (entryOf (routeAddress r) (electionIn c)) ≡ announced t r c
+    announced-admitted : routeNumber r ≡ 0 → sameNumbers (t .esi) (routeEsi r) ≡ true → listFits c ≡ true → admitted t (entryOf (routeAddress r) (electionIn c)) ≡ announced t r c
     unfolding announced announceNumber admitted
-    announced-admitted n s l = alike t _ (passed-on 3 _ (eq-not n, (ap not s, (ap not l, tt)))) (sym (place-accepted r n))
+    announced-admitted n s l = alike t _ (passed-on 3 _ (eq-not n, (ap not s, (ap not l, tt)))) (sym (offset-accepted r n))
 
     -- the same, from what the steps of the call answer
     module _ (a : ℕ) (h : routeChecked r ≡ Originator a) where
       route : routeNumber r ≡ 0
       route = told-originator r a h .0
 
-      pub differs : sameOctets (t .esi) (routeEsi r) ≡ false → refused 5 t ≡ announced t r c
+      pub differs : sameNumbers (t .esi) (routeEsi r) ≡ false → refused 5 t ≡ announced t r c
       unfolding announced announceNumber
-      differs s = alike t _ (refused-at 1 _ (eq-not route, tt) (ap not s)) (sym (place-accepted r route))
+      differs s = alike t _ (refused-at 1 _ (eq-not route, tt) (ap not s)) (sym (offset-accepted r route))
 
-      pub unread : (l : ListRead) → sameOctets (t .esi) (routeEsi r) ≡ true → l ≡ readList c → (l .number ≡ 0 → ⊥) → refused 7 t ≡ announced t r c
+      pub unread : (l : ListRead) → sameNumbers (t .esi) (routeEsi r) ≡ true → l ≡ readList c → (l .number ≡ 0 → ⊥) → refused 7 t ≡ announced t r c
       unfolding announced announceNumber
       unread l s q n =
           let f = list-refused c (λ e. n (ap (λ (x : ListRead). x .number) q ∙ e)) in
-          alike t _ (refused-at 2 _ (eq-not route, (ap not s, tt)) (ap not f)) (sym (place-accepted r route))
+          alike t _ (refused-at 2 _ (eq-not route, (ap not s, tt)) (ap not f)) (sym (offset-accepted r route))
 
-      pub done : (l : ListRead) (e : Entry) (x : Change) → sameOctets (t .esi) (routeEsi r) ≡ true → l ≡ readList c → l .number ≡ 0
+      pub done : (l : ListRead) (e : Entry) (x : Change) → sameNumbers (t .esi) (routeEsi r) ≡ true → l ≡ readList c → l .number ≡ 0
           → e ≡ entryOf a (l .election) → x ≡ admitted t e → x ≡ announced t r c
       done l e x s q n f g =
           let told = told-originator r a h in
@@ -143,7 +143,7 @@ module _ (i r c : List ℕ) (p : Bool) (n : ℕ) (h : announceNumber i r c p n �
   unfolding announceNumber
   passed-route = eqb-true _ _ (not-false _ (passed _ (telling-own (routeNumber r)) h .0))
 
-  pub passed-esi : sameOctets i (routeEsi r) ≡ true
+  pub passed-esi : sameNumbers i (routeEsi r) ≡ true
   unfolding announceNumber
   passed-esi = not-false _ (passed _ (telling-own (routeNumber r)) h .1 .0)
 
@@ -175,7 +175,7 @@ chosen-kept n p old new w f = cond-by WellFormed (eqb n 0) (λ e. f (eqb-true n 
 module _ (t : Table) (w : WellFormed t) where
   pub announced-kept : (r c : List ℕ) → WellFormed (announced t r c .table)
   unfolding announced
-  announced-kept r c = chosen-kept n (routePlace r) t (tableOf (t .esi) (insert entryKey e l)) w new
+  announced-kept r c = chosen-kept n (routeOffset r) t (tableOf (t .esi) (insert entryKey e l)) w new
     where
       l : List Entry
       l = t .entries
@@ -216,6 +216,6 @@ module _ (t : Table) (w : WellFormed t) where
             right = keyed.every-remove entryKey EntryRight k (t .entries) (w .right);
           }
 
-  pub announced-fault : (r c : List ℕ) → Fault r (routeNumber r) (announced t r c .place)
+  pub announced-fault : (r c : List ℕ) → Fault r (routeNumber r) (announced t r c .offset)
   unfolding announced
   announced-fault r c = route-fault r

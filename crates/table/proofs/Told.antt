@@ -72,8 +72,8 @@ module _ (b : List ℕ) (h : Valid b) where
   abbrev es : List Entry
   es = t .entries
 
-  unchanged : (c : Change) (n p : ℕ) → record { number = n; place = p; table = t } ≡ c → Told c n p b
-  unchanged c n p e = (ap (λ (y : Change). y .number) e, ap (λ (y : Change). y .place) e, ap (λ (y : Change). y .table) e)
+  unchanged : (c : Change) (n p : ℕ) → record { number = n; offset = p; table = t } ≡ c → Told c n p b
+  unchanged c n p e = (ap (λ (y : Change). y .number) e, ap (λ (y : Change). y .offset) e, ap (λ (y : Change). y .table) e)
 
   -- AN ENTRY that passed the checks before the last
   module _ (a w i : ℕ) (e : Election) (p : Packed e w) where
@@ -137,7 +137,7 @@ module _ (b : List ℕ) (h : Valid b) where
     announced-fault n p x o = subst (Fault r (routeNumber r)) (sym (o .1)) (calls.announced-fault t (h .sound) r c)
 
     -- the table is left as it was
-    pub announced-refused : (n p : ℕ) → record { number = n; place = p; table = t } ≡ announced t r c → Announced n p b
+    pub announced-refused : (n p : ℕ) → record { number = n; offset = p; table = t } ≡ announced t r c → Announced n p b
     announced-refused n p e = let o = unchanged (announced t r c) n p e in (o, (h, announced-fault n p b o))
 
     abbrev number : ℕ
@@ -146,7 +146,7 @@ module _ (b : List ℕ) (h : Valid b) where
     abbrev added : List Entry
     added = insert entryKey (entryOf (routeAddress r) (electionIn c)) es
 
-    pub announced-admitted : (a n : ℕ) (e : Election) (x : List ℕ) → admitted t (entryOf a e) ≡ announced t r c → 0 ≡ admitted t (entryOf a e) .place → electionIn c ≡ e → Stored (admitted t (entryOf a e)) n x → e .preference < 65536 → Announced n 0 x
+    pub announced-admitted : (a n : ℕ) (e : Election) (x : List ℕ) → admitted t (entryOf a e) ≡ announced t r c → 0 ≡ admitted t (entryOf a e) .offset → electionIn c ≡ e → Stored (admitted t (entryOf a e)) n x → e .preference < 65536 → Announced n 0 x
     unfolding announced
     announced-admitted a n e x f z g o m =
         let s : Stored (announced t r c) n x = subst (λ (y : Change). Stored y n x) f o in
@@ -155,7 +155,7 @@ module _ (b : List ℕ) (h : Valid b) where
         stored-valid (announced t r c) n x s (calls.announced-kept t (h .sound) r c)
         (narrow-change number added (keyed.every-insert entryKey Narrow (entryOf (routeAddress r) (electionIn c)) es q (narrow-entries b h)))
         (same-esi number added) in
-        let told : Told (announced t r c) n 0 x = (s .0, z ∙ ap (λ (y : Change). y .place) f, k .0) in
+        let told : Told (announced t r c) n 0 x = (s .0, z ∙ ap (λ (y : Change). y .offset) f, k .0) in
         (told, (k .1, announced-fault n 0 x told))
 
 -- what a list that was read says, and the identifier's part of a route
@@ -165,6 +165,6 @@ list-says c l q n = sym (ap (λ (y : ListRead). y .election) q ∙ list-accepted
 pub length-part : (r : List ℕ) → length r ≡ 25 → length (take 10 (drop 10 r)) ≡ 10
 length-part r h = length-take-le 10 (drop 10 r) (omega (arith, length-drop 10 r))
 
-pub admitted-place : (t : Table) (e : Entry) → 0 ≡ admitted t e .place
+pub admitted-offset : (t : Table) (e : Entry) → 0 ≡ admitted t e .offset
 unfolding admitted
-admitted-place t e = refl
+admitted-offset t e = refl

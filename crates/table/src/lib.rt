@@ -4,6 +4,12 @@ use address::Address;
 use community::Election;
 use layout::MAX_ROUTES;
 pub use layout::WORDS;
+use refusals::ADDRESS_ZERO;
+use refusals::ESI_RESERVED;
+use refusals::LIST_LENGTH;
+use refusals::NOT_PRESENT;
+use refusals::OTHER_SEGMENT;
+use refusals::TABLE_FULL;
 use route::Checked;
 use rows::Found;
 ghost use mathlib.Core.Path.{_≡_};
@@ -17,29 +23,16 @@ ghost use Rattle.table.specs.Steps.{Stored, admitted};
 // The preference that a configuration would start from (RFC 9785); no rule of the table uses it.
 pub const DEFAULT_PREFERENCE: u16 = 32767;
 
-// The refusals of the calls that are not the route's own.
-const ESI_RESERVED: u8 = 4;
-
-const OTHER_SEGMENT: u8 = 5;
-
-const ADDRESS_ZERO: u8 = 6;
-
-const LIST_LENGTH: u8 = 7;
-
-const TABLE_FULL: u8 = 8;
-
-const NOT_PRESENT: u8 = 9;
-
 // A fresh table: 0 or a refusal number, and the words of the table.
 pub struct Made {
     pub number: u8,
     pub table: [u32; WORDS],
 }
 
-// The answer to an announcement: 0 or a refusal number, and the place that a route's refusal speaks of (else 0).
+// The answer to an announcement: 0 or a refusal number, and the offset that a route's refusal speaks of (else 0).
 pub struct Verdict {
     pub number: u8,
-    pub place: usize,
+    pub offset: usize,
 }
 
 // A fresh table for an identifier. For a reserved one, or one that is not ten octets, 4 and the empty table of the all-zero identifier.
@@ -86,40 +79,40 @@ fn admit(t: &mut [u32], address: Address, e: Election) -> u8
 
 // Announces a route with its communities. The route's own checks come first; then 5 for another identifier, 7 for a list of communities
 // over 256 octets or not a multiple of 8, 8 for a new address where 64 are present. An address that is present has its entry replaced. The
-// place that the route's own checks give is passed on.
+// offset that the route's own checks give is passed on.
 pub fn announce(t: &mut [u32], route: &[u8], communities: &[u8]) -> Verdict
     requires { ⌜ Valid (now t) ⌝ }
-    ensures answer { λ r. ⌜ Told (announced (tableIn (now (t .entry))) (now (route .entry)) (now (communities .entry))) (r .number) (r .place) (now (t .exit)) ⌝ }
+    ensures answer { λ r. ⌜ Told (announced (tableIn (now (t .entry))) (now (route .entry)) (now (communities .entry))) (r .number) (r .offset) (now (t .exit)) ⌝ }
     ensures kept { λ _. ⌜ Valid (now (t .exit)) ⌝ }
-    ensures fault { λ r. ⌜ Fault (now (route .entry)) (routeNumber (now (route .entry))) (r .place) ⌝ }
+    ensures fault { λ r. ⌜ Fault (now (route .entry)) (routeNumber (now (route .entry))) (r .offset) ⌝ }
 {
     let checked = route::check(route);
     let Checked::Originator(address) = checked else {
         let n = route::number(checked);
-        let p = route::place(checked);
+        let p = route::offset(checked);
         return Verdict {
             number: n,
-            place: p,
+            offset: p,
         };
     };
     if !layout::same_identifier(t, &route[10..20]) {
         return Verdict {
             number: OTHER_SEGMENT,
-            place: 0,
+            offset: 0,
         };
     }
     let list = community::read_list(communities);
     if list.number != 0 {
         return Verdict {
             number: LIST_LENGTH,
-            place: 0,
+            offset: 0,
         };
     }
     let election = list.election;
     let number = admit(t, address, election);
     Verdict {
         number: number,
-        place: 0,
+        offset: 0,
     }
 }
 

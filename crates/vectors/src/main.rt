@@ -51,18 +51,18 @@ fn show_pair(name: &[u8], preference: u16, dp: bool, wanted: u16, wanted_dp: boo
     verdict(preference == wanted && dp == wanted_dp);
 }
 
-// A refusal number and its place beside what they should be.
-fn show_place(name: &[u8], number: u64, place: u64, wanted: u64, wanted_place: u64) {
+// A refusal number and its offset beside what they should be.
+fn show_offset(name: &[u8], number: u64, offset: u64, wanted: u64, wanted_offset: u64) {
     io::write_all(STDOUT_FILENO, name);
     io::write_all(STDOUT_FILENO, b": ");
     io::print_decimal(STDOUT_FILENO, number);
     io::write_all(STDOUT_FILENO, b" ");
-    io::print_decimal(STDOUT_FILENO, place);
+    io::print_decimal(STDOUT_FILENO, offset);
     io::write_all(STDOUT_FILENO, b", should be ");
     io::print_decimal(STDOUT_FILENO, wanted);
     io::write_all(STDOUT_FILENO, b" ");
-    io::print_decimal(STDOUT_FILENO, wanted_place);
-    verdict(number == wanted && place == wanted_place);
+    io::print_decimal(STDOUT_FILENO, wanted_offset);
+    verdict(number == wanted && offset == wanted_offset);
 }
 
 // ---- tables of one segment: router n has the address 10.0.0.n
@@ -83,7 +83,7 @@ struct Table {
 // What an announcement answers, and the table after it.
 struct Change {
     number: u8,
-    place: usize,
+    offset: usize,
     table: Table,
 }
 
@@ -112,7 +112,7 @@ fn announce(t: Table, n: u8, algorithm: u8, preference: u16, dp: bool) -> Change
     let told = segment::announce(&mut words, &octets, &community);
     Change {
         number: told.number,
-        place: told.place,
+        offset: told.offset,
         table: Table { words: words },
     }
 }
@@ -225,21 +225,21 @@ fn full_table() {
 // ---- document 02, M-103: where a text or a route is wrong
 
 // What reading a text tells.
-fn show_text(name: &[u8], text: &[u8], wanted: u64, wanted_place: u64) {
+fn show_text(name: &[u8], text: &[u8], wanted: u64, wanted_offset: u64) {
     let read = esi::read_text(text);
-    show_place(
+    show_offset(
         name,
         read.number as u64,
-        read.place as u64,
+        read.offset as u64,
         wanted,
-        wanted_place,
+        wanted_offset,
     );
 }
 
 // Texts with wrong characters: the first is told.
 fn text_characters() {
     show_text(
-        b"the letter O at place 1",
+        b"the letter O at offset 1",
         b"0O:11:22:33:44:55:66:77:88:99",
         13,
         1,
@@ -289,14 +289,14 @@ fn good_route() -> [u8; 25] {
 }
 
 // What reading a route tells.
-fn show_route(name: &[u8], octets: &[u8], wanted: u64, wanted_place: u64) {
+fn show_route(name: &[u8], octets: &[u8], wanted: u64, wanted_offset: u64) {
     let read = route::read(octets);
-    show_place(
+    show_offset(
         name,
         read.number as u64,
-        read.place as u64,
+        read.offset as u64,
         wanted,
-        wanted_place,
+        wanted_offset,
     );
 }
 
@@ -326,7 +326,7 @@ fn route_type() {
     show_route(b"route type 5", &octets, 2, 0);
 }
 
-// A route with address length 31; its announcement passes the place on.
+// A route with address length 31; its announcement passes the offset on.
 fn route_bits() {
     let mut octets = good_route();
     octets[20] = 31;
@@ -334,10 +334,10 @@ fn route_bits() {
     let t = empty_table();
     let mut words = t.words;
     let change = segment::announce(&mut words, &octets, b"");
-    show_place(
+    show_offset(
         b"address length 31, announced",
         change.number as u64,
-        change.place as u64,
+        change.offset as u64,
         3,
         20,
     );

@@ -1,4 +1,4 @@
--- `first_wrong` meets its contract. The loop's invariant: the first wrong place is the first from place i on. Assumes nothing.
+-- `first_wrong` meets its contract. The loop's invariant: the first wrong offset is the first from offset i on. Assumes nothing.
 use Prim.Native.Nat.{_≤_, _-_}
 use native.Mathlib.Omega.{arith}
 use mathlib.Core.Path.{_≡_, refl, sym, _∙_}

@@ -15,7 +15,7 @@ use Rattle.esi.proofs.read_text.Tie as tie
 
 -- the contract's three clauses, of an answer that is the right one
 done : (t : List ℕ) (a : TextRead) → Octets t → a ≡ readText t
-    → (a ≡ readText t) × ((a .number ≡ 13 → FirstFault t (a .place)) × (a .number ≡ 0 → textOf (a .esi) ≡ lowerCase t))
+    → (a ≡ readText t) × ((a .number ≡ 13 → FirstFault t (a .offset)) × (a .number ≡ 0 → textOf (a .esi) ≡ lowerCase t))
 done t a o e = (e, (rw e (read-fault t), rw e (text-of-read t o)))
 
 formed : (t : List ℕ) {w : ℕ} → w ≡ firstWrong t → length t ≡ 29 → w ≡ 29 → wellFormed t ≡ true

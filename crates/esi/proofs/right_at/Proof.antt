@@ -1,4 +1,4 @@
--- `right_at` meets its contract: a colon at every third place, a digit elsewhere. Assumes nothing.
+-- `right_at` meets its contract: a colon at every third offset, a digit elsewhere. Assumes nothing.
 use native.Mathlib.Omega.{arith}
 use mathlib.Core.Path.{sym}
 use borrow.Author.Needs.{needs}

@@ -1,4 +1,4 @@
--- `write_text` meets its contract. The loop's invariant: the characters before `place` of the text stand in the buffer. Assumes nothing.
+-- `write_text` meets its contract. The loop's invariant: the characters before `offset` of the text stand in the buffer. Assumes nothing.
 use Prim.Native.Nat.{ℕ, _≤_, _<_, _-_}
 use native.Mathlib.Omega.{arith}
 use mathlib.Core.Path.{_≡_, refl, sym, _∙_}
@@ -15,10 +15,10 @@ use Rattle.esi.proofs.write_text.Statement.{statement}
 use Rattle.esi.proofs.write_text.Tie as tie
 
 abbrev Inv-loop : tie.InvT-loop
-Inv-loop buf₀ esi place₀ buf place = (place ≤ 29) × (length buf ≡ length buf₀) × (buf ≡ take place (textOf esi) ++ drop place buf₀)
+Inv-loop buf₀ esi offset₀ buf offset = (offset ≤ 29) × (length buf ≡ length buf₀) × (buf ≡ take offset (textOf esi) ++ drop offset buf₀)
 
 abbrev μ-loop : tie.MeasureT-loop
-μ-loop buf₀ esi place₀ buf place = 29 - place
+μ-loop buf₀ esi offset₀ buf offset = 29 - offset
 
 -- the contract's three clauses, of the answer n and the buffer l at the end
 abbrev Done : List ℕ → List ℕ → ℕ → List ℕ → Type 0
@@ -58,7 +58,7 @@ loop-again c =
     let ar = c .before .before .before .before .before .before .before .before .args in
     let d = ar .buf .now in
     let s = ar .esi .now in
-    let i = at .loop .place in
+    let i = at .loop .offset in
     let char = c .text-at .ensures ∙ sym (getD-text s i (omega arith)) in
     (omega arith, length-set (at .loop .buf) i _ ∙ at .loop .inv .1, rw (at .loop .inv .2, char) (front-next d (textOf s) i (omega arith) (rw (length-text s) (omega arith))))
 
@@ -70,7 +70,7 @@ returns-3 c =
     let ar = c .before .before .before .before .before .before .before .args in
     let d = ar .buf .now in
     let s = ar .esi .now in
-    let all : c .before .loop .place ≡ 29 = omega arith in
+    let all : c .before .loop .offset ≡ 29 = omega arith in
     let else = c .before .before .before in
     written d s (c .before .loop .buf) (c .before .loop .inv .2 ∙ rw all (front-all d (textOf s) 29 (length-text s)))
     (λ i. omega (arith, else .before .before .shared-slice-known .given i)) (sym (else .before .is-reserved .ensures) ∙ else .if1 .left) (omega arith)

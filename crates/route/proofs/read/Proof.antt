@@ -13,7 +13,7 @@ returns c =
     let numbered = c .before in
     let called = numbered .before .before .before in
     let s = now (called .before .before .args .s) in
-    reads-refused s _ _ _ _ _ (called .check .ensures) (numbered .before .enum-told .given .1) (numbered .number .ensures) (c .place .ensures)
+    reads-refused s _ _ _ _ _ (called .check .ensures) (numbered .before .enum-told .given .1) (numbered .number .ensures) (c .offset .ensures)
 
 part-store-end : tie.Need-part-store-end
 part-store-end c =

@@ -8,7 +8,7 @@ use Rattle.route.specs.Route.{routeEsi}
 use Rattle.route.proofs.Laws.{route-length, told-originator}
 use Rattle.layout.specs.Words.{tableIn}
 use Rattle.table.proofs.Calls as calls
-use Rattle.table.proofs.Told.{announced-refused, announced-admitted, admitted-place, list-says, length-part}
+use Rattle.table.proofs.Told.{announced-refused, announced-admitted, admitted-offset, list-says, length-part}
 use borrow.Author.Needs.{needs}
 use Rattle.table.proofs.announce.Statement.{statement}
 use Rattle.table.proofs.announce.Tie as tie
@@ -20,7 +20,7 @@ returns c =
     let r = now (start .args .route) in
     let l = now (start .args .communities) in
     announced-refused b (start .pre) r l _ _
-    (calls.announced-refused (tableIn b) (start .pre .sound) r l _ _ _ _ _ (c .before .before .before .before .check .ensures .0) (c .before .before .enum-told .given .1) (c .before .number .ensures) (c .place .ensures))
+    (calls.announced-refused (tableIn b) (start .pre .sound) r l _ _ _ _ _ (c .before .before .before .before .check .ensures .0) (c .before .before .enum-told .given .1) (c .before .number .ensures) (c .offset .ensures))
 
 part-same-identifier-end : tie.Need-part-same-identifier-end
 part-same-identifier-end c =
@@ -69,7 +69,7 @@ returns-4 c =
     let list = c .before .before .before .before .before .before .before .read-list .ensures in
     let zero = c .before .before .before .before .before .if2 .left in
     let told = c .before .before .admit .ensures in
-    announced-admitted b (start .pre) r l _ _ _ _ (calls.done (tableIn b) (start .pre .sound) r l _ checked _ _ _ same list zero refl refl) (admitted-place (tableIn b) _) (list-says l _ list zero) (told .0) (told .1)
+    announced-admitted b (start .pre) r l _ _ _ _ (calls.done (tableIn b) (start .pre .sound) r l _ checked _ _ _ same list zero refl refl) (admitted-offset (tableIn b) _) (list-says l _ list zero) (told .0) (told .1)
 
 pub announce-spec : {M : Type 1} → statement M
 announce-spec =

@@ -1,15 +1,15 @@
--- `put_place` meets its contract: the six pieces of the line are put one after another, and there is room for them. Assumes nothing.
+-- `put_offset` meets its contract: the six pieces of the line are put one after another, and there is room for them. Assumes nothing.
 use native.Mathlib.Omega.{arith}
 use mathlib.Core.Path.{refl}
 use Rattle.lines.proofs.Laws.{put-next}
-use Rattle.records.specs.Records.{placeLine}
-use Rattle.records.proofs.Laws.{written-all, length-place}
+use Rattle.records.specs.Records.{offsetLine}
+use Rattle.records.proofs.Laws.{written-all, length-offset}
 use borrow.Author.Needs.{needs}
-use Rattle.records.proofs.put_place.Statement.{statement}
-use Rattle.records.proofs.put_place.Tie as tie
+use Rattle.records.proofs.put_offset.Statement.{statement}
+use Rattle.records.proofs.put_offset.Tie as tie
 
 returns : tie.Need-returns
-unfolding placeLine
+unfolding offsetLine
 returns c =
     let p6 = c .before .before in
     let p5 = p6 .before .before .before .before in
@@ -23,10 +23,10 @@ returns c =
     (put-next (p2 .put-octet2 .ensures)
     (put-next (p3 .put-decimal .ensures) (put-next (p4 .put-octet3 .ensures) (put-next (p5 .put-decimal2 .ensures) (λ _. p6 .put-octet4 .ensures))))))
     refl
-    (omega (arith, length-place (s .args .letter) (s .args .number) (s .args .place) (omega arith) (omega arith), s .pre))
+    (omega (arith, length-offset (s .args .letter) (s .args .number) (s .args .offset) (omega arith) (omega arith), s .pre))
 
-pub put-place-spec : {M : Type 1} → statement M
-put-place-spec =
+pub put-offset-spec : {M : Type 1} → statement M
+put-offset-spec =
     tie.close
     (tie.spec
     (λ c κs. search needs)
