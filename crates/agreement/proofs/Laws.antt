@@ -9,7 +9,7 @@ use lib.ListN.{length, getD, drop, drop-of-length-le}
 use lib.Seq.{drop-cons}
 use lib.Dec.{ltb, eqb}
 use borrow.Author.Tests.{lt-ltb, le-ltb, eq-eqb, ne-eqb}
-use Rattle.lists.specs.Lists.{bit}
+use Rattle.lists.specs.Lists.{all, bit}
 use Rattle.lists.proofs.Bools.{bit-halves}
 use Rattle.lists.proofs.Numbers.{whether}
 use Rattle.lists.proofs.Lists.{empty}
@@ -22,7 +22,7 @@ use Rattle.agreement.specs.declared.InUse.{InUse}
 -- A WALK over entries: all before place i were of the kind, and those from there on are, exactly if all are
 module _ (k : ℕ) (es : List Entry) where
   kind-step : (i : ℕ) → i < length es → allOfKind k (drop i es) ≡ (eqb (kindOf (getD es i noEntry)) k && allOfKind k (drop (i + 1) es))
-  unfolding allOfKind
+  unfolding allOfKind all
   kind-step i h = rw (add-one, drop-cons es i noEntry h)
 
   module _ (i : ℕ) (h : i < length es) (b : Bool) (q : (b && allOfKind k (drop i es)) ≡ allOfKind k es) where
@@ -33,7 +33,7 @@ module _ (k : ℕ) (es : List Entry) where
     kind-same e = sym (ap (b &&_) (kind-step i h ∙ rw (eq-eqb _ k e))) ∙ q
 
   pub kind-end : (i : ℕ) (b : Bool) → length es ≤ i → (b && allOfKind k (drop i es)) ≡ allOfKind k es → b ≡ allOfKind k es
-  unfolding allOfKind
+  unfolding allOfKind all
   kind-end i b h q = sym (ap (λ (l : List Entry). b && allOfKind k l) (drop-of-length-le es {i = i} h) ∙ and-true b) ∙ q
 
 -- A KIND is an algorithm and an AC-DF bit
@@ -50,7 +50,7 @@ kind-eqb x a false true = ne-eqb (x * 2 + 0) (a * 2 + 1) (λ f. omega arith) ∙
 kind-eqb x a false false = kind-same-bit x a 0
 
 kind-carry : (e : Entry) (l : List Entry) → allOfKind (kindOf e) l ≡ allCarry (e .algorithm) (e .«ac_df») l
-unfolding allOfKind allCarry kindOf
+unfolding allOfKind allCarry all kindOf
 kind-carry e [] = refl
 kind-carry e (x ∷ l) = ap₂ _&&_ (kind-eqb (x .algorithm) (e .algorithm) (x .«ac_df») (e .«ac_df»)) (kind-carry e l)
 
@@ -63,7 +63,7 @@ abbrev usedBy : Entry → InUse
 usedBy e = record { algorithm = e .algorithm; «ac_df» = e .«ac_df» }
 
 in-use-first : (e : Entry) (l : List Entry) → inUse (e ∷ l) ≡ cond (ltb (e .algorithm) 4 && allOfKind (kindOf e) (e ∷ l)) (usedBy e) fallback
-unfolding inUse allCarry
+unfolding inUse allCarry all
 in-use-first e l = rw (kind-carry e (e ∷ l), carries-own (e .algorithm) (e .«ac_df»))
 
 kind-halves : (e : Entry) → (kindOf e / 2 ≡ e .algorithm) × (eqb (kindOf e % 2) 1 ≡ e .«ac_df»)
