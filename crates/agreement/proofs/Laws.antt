@@ -9,9 +9,10 @@ use lib.ListN.{length, getD, drop, drop-of-length-le}
 use lib.Seq.{drop-cons}
 use lib.Dec.{ltb, eqb}
 use borrow.Author.Tests.{lt-ltb, le-ltb, eq-eqb, ne-eqb}
-use Rattle.lists.specs.Lists.{bit}
+use Rattle.lists.specs.Lists.{all, bit}
 use Rattle.lists.proofs.Bools.{bit-halves}
-use Rattle.lists.proofs.Numbers.{Same, yea, nay, same}
+use Rattle.lists.proofs.Numbers.{whether}
+use Rattle.lists.proofs.Lists.{empty}
 use Rattle.layout.specs.Table.{Entry, noEntry}
 use Rattle.layout.specs.Words.{kindOf}
 use Rattle.agreement.specs.Agreement.{allCarry, fallback, inUse}
@@ -21,7 +22,7 @@ use Rattle.agreement.specs.declared.InUse.{InUse}
 -- A WALK over entries: all before place i were of the kind, and those from there on are, exactly if all are
 module _ (k : ℕ) (es : List Entry) where
   kind-step : (i : ℕ) → i < length es → allOfKind k (drop i es) ≡ (eqb (kindOf (getD es i noEntry)) k && allOfKind k (drop (i + 1) es))
-  unfolding allOfKind
+  unfolding allOfKind all
   kind-step i h = rw (add-one, drop-cons es i noEntry h)
 
   module _ (i : ℕ) (h : i < length es) (b : Bool) (q : (b && allOfKind k (drop i es)) ≡ allOfKind k es) where
@@ -32,25 +33,24 @@ module _ (k : ℕ) (es : List Entry) where
     kind-same e = sym (ap (b &&_) (kind-step i h ∙ rw (eq-eqb _ k e))) ∙ q
 
   pub kind-end : (i : ℕ) (b : Bool) → length es ≤ i → (b && allOfKind k (drop i es)) ≡ allOfKind k es → b ≡ allOfKind k es
-  unfolding allOfKind
+  unfolding allOfKind all
   kind-end i b h q = sym (ap (λ (l : List Entry). b && allOfKind k l) (drop-of-length-le es {i = i} h) ∙ and-true b) ∙ q
 
 -- A KIND is an algorithm and an AC-DF bit
+kind-same-bit : (x a n : ℕ) → eqb (x * 2 + n) (a * 2 + n) ≡ (eqb x a && true)
+kind-same-bit x a n =
+    whether x a
+    (λ e. rw (eq-eqb x a e, eq-eqb (x * 2 + n) (a * 2 + n) (omega arith)))
+    (λ d. rw (ne-eqb x a d, ne-eqb (x * 2 + n) (a * 2 + n) (λ f. d (omega arith))))
+
 kind-eqb : (x a : ℕ) (p q : Bool) → eqb (x * 2 + bit p) (a * 2 + bit q) ≡ (eqb x a && Bool·beq p q)
-kind-eqb x a p q = go (same x a) p q
-  where
-    go : Same x a → (p q : Bool) → eqb (x * 2 + bit p) (a * 2 + bit q) ≡ (eqb x a && Bool·beq p q)
-    go (yea e) true true = rw (eq-eqb x a e, eq-eqb (x * 2 + 1) (a * 2 + 1) (omega arith))
-    go (yea e) true false = rw (eq-eqb x a e, ne-eqb (x * 2 + 1) (a * 2 + 0) (λ f. omega arith))
-    go (yea e) false true = rw (eq-eqb x a e, ne-eqb (x * 2 + 0) (a * 2 + 1) (λ f. omega arith))
-    go (yea e) false false = rw (eq-eqb x a e, eq-eqb (x * 2 + 0) (a * 2 + 0) (omega arith))
-    go (nay n) true true = rw (ne-eqb x a n, ne-eqb (x * 2 + 1) (a * 2 + 1) (λ f. n (omega arith)))
-    go (nay n) true false = rw (ne-eqb x a n, ne-eqb (x * 2 + 1) (a * 2 + 0) (λ f. omega arith))
-    go (nay n) false true = rw (ne-eqb x a n, ne-eqb (x * 2 + 0) (a * 2 + 1) (λ f. omega arith))
-    go (nay n) false false = rw (ne-eqb x a n, ne-eqb (x * 2 + 0) (a * 2 + 0) (λ f. n (omega arith)))
+kind-eqb x a true true = kind-same-bit x a 1
+kind-eqb x a true false = ne-eqb (x * 2 + 1) (a * 2 + 0) (λ f. omega arith) ∙ sym (and-false (eqb x a))
+kind-eqb x a false true = ne-eqb (x * 2 + 0) (a * 2 + 1) (λ f. omega arith) ∙ sym (and-false (eqb x a))
+kind-eqb x a false false = kind-same-bit x a 0
 
 kind-carry : (e : Entry) (l : List Entry) → allOfKind (kindOf e) l ≡ allCarry (e .algorithm) (e .«ac_df») l
-unfolding allOfKind allCarry kindOf
+unfolding allOfKind allCarry all kindOf
 kind-carry e [] = refl
 kind-carry e (x ∷ l) = ap₂ _&&_ (kind-eqb (x .algorithm) (e .algorithm) (x .«ac_df») (e .«ac_df»)) (kind-carry e l)
 
@@ -63,7 +63,7 @@ abbrev usedBy : Entry → InUse
 usedBy e = record { algorithm = e .algorithm; «ac_df» = e .«ac_df» }
 
 in-use-first : (e : Entry) (l : List Entry) → inUse (e ∷ l) ≡ cond (ltb (e .algorithm) 4 && allOfKind (kindOf e) (e ∷ l)) (usedBy e) fallback
-unfolding inUse allCarry
+unfolding inUse allCarry all
 in-use-first e l = rw (kind-carry e (e ∷ l), carries-own (e .algorithm) (e .«ac_df»))
 
 kind-halves : (e : Entry) → (kindOf e / 2 ≡ e .algorithm) × (eqb (kindOf e % 2) 1 ≡ e .«ac_df»)
@@ -73,11 +73,7 @@ kind-halves e = bit-halves (e .algorithm) (e .«ac_df»)
 module _ (es : List Entry) where
   pub in-use-empty : length es ≡ 0 → fallback ≡ inUse es
   unfolding inUse
-  in-use-empty z = go es z
-    where
-      go : (l : List Entry) → length l ≡ 0 → fallback ≡ inUse l
-      go [] z = refl
-      go (e ∷ l) z = absurd (omega arith)
+  in-use-empty z = rw (empty es z)
 
   module _ (some : 0 < length es) (k : ℕ) (q : k ≡ kindOf (getD es 0 noEntry)) where
     abbrev first : Entry

@@ -5,9 +5,10 @@
 --   fallback          == algorithm 0 without AC-DF
 --   inUse l           == the algorithm and the AC-DF bit in use among the entries l
 use Prim.Native.Nat.{ℕ}
-use mathlib.Core.Bool.{Bool, true, false, cond, _&&_, Bool·beq}
+use mathlib.Core.Bool.{Bool, false, cond, _&&_, Bool·beq}
 use mathlib.Core.List.{List, [], _∷_}
 use lib.Dec.{ltb, eqb}
+use Rattle.lists.specs.Lists.{all}
 use Rattle.layout.specs.Table.{Entry}
 use Rattle.agreement.specs.declared.InUse.{InUse}
 
@@ -15,8 +16,7 @@ abbrev pub carries : ℕ → Bool → Entry → Bool
 carries a ac e = eqb (e .algorithm) a && Bool·beq (e .«ac_df») ac
 
 unfoldable pub allCarry : ℕ → Bool → List Entry → Bool
-allCarry a ac [] = true
-allCarry a ac (e ∷ l) = carries a ac e && allCarry a ac l
+allCarry a ac l = all (carries a ac) l
 
 abbrev pub fallback : InUse
 fallback = record { algorithm = 0; «ac_df» = false }

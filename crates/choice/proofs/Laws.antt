@@ -7,7 +7,7 @@ use mathlib.Core.Bool.{Bool, true, false, cond, not}
 use mathlib.Core.List.{List, [], _∷_, List·Memᴰ, List·Memᴰ·head, List·Memᴰ·tail, List·Memᴰ·not-nil, List·Memᴰ·eq-of-singleton, Memᴰ·append-right}
 use lib.Dec.{eqb}
 use borrow.Author.Tests.{ne-eqb}
-use Rattle.lists.proofs.Bools.{true-false, not-true-false, not-false-true}
+use Rattle.lists.proofs.Bools.{by-test, true-false, not-true-false, not-false-true}
 use Rattle.choice.specs.Choice.{best, bestOf, kept}
 
 -- ---- members
@@ -30,11 +30,10 @@ module _ {A : Type 0} where
     pub mem-kept : (l : List A) {a : A} → List·Memᴰ a (kept keep l) → List·Memᴰ a l
     unfolding kept
     mem-kept [] h = h
-    mem-kept (x ∷ l) {a} h = go (keep x) refl (mem-kept l)
-      where
-        go : (t : Bool) → keep x ≡ t → (List·Memᴰ a (kept keep l) → List·Memᴰ a l) → List·Memᴰ a (x ∷ l)
-        go true e ih = mem-under ih (rw (kept-true x l e) at h)
-        go false e ih = List·Memᴰ·tail (ih (rw (kept-false x l e) at h))
+    mem-kept (x ∷ l) h =
+        by-test (keep x)
+        (λ e. mem-under (mem-kept l) (rw (kept-true x l e) at h))
+        (λ e. List·Memᴰ·tail (mem-kept l (rw (kept-false x l e) at h)))
 
     pub kept-mem : {a : A} {l : List A} → keep a ≡ true → List·Memᴰ a l → List·Memᴰ a (kept keep l)
     unfolding kept
@@ -101,11 +100,11 @@ module _ {A : Type 0} (key : A → ℕ) (better : A → A → Bool) (o : Order k
   top-step x y m l u true p ih b (List·Memᴰ·head e) = ap (λ (a : A). better a m) e ∙ worse y x m p (ih y (List·Memᴰ·head refl))
   top-step x y m l u true p ih b (List·Memᴰ·tail h) = ih b h
   top-step x y m l u false p ih b (List·Memᴰ·head e) = ih b (List·Memᴰ·head e)
-  top-step x y m l u false p ih b (List·Memᴰ·tail (List·Memᴰ·head e)) = ap (λ (a : A). better a m) e ∙ go (better x y) refl
-    where
-      go : (t : Bool) → better x y ≡ t → better y m ≡ false
-      go true q = worse x y m q (ih x (List·Memᴰ·head refl))
-      go false q = ih y (List·Memᴰ·head (u y x (List·Memᴰ·tail (List·Memᴰ·head refl)) (List·Memᴰ·head refl) (o .tells y x p q)))
+  top-step x y m l u false p ih b (List·Memᴰ·tail (List·Memᴰ·head e)) =
+      ap (λ (a : A). better a m) e
+      ∙ by-test (better x y)
+      (λ q. worse x y m q (ih x (List·Memᴰ·head refl)))
+      (λ q. ih y (List·Memᴰ·head (u y x (List·Memᴰ·tail (List·Memᴰ·head refl)) (List·Memᴰ·head refl) (o .tells y x p q))))
   top-step x y m l u false p ih b (List·Memᴰ·tail (List·Memᴰ·tail h)) = ih b (List·Memᴰ·tail h)
 
   -- no element of the list is better than the best

@@ -9,7 +9,7 @@ use lib.ListN.{length, getD, take, drop, length-drop}
 use lib.Seq.{length-take-le, getD-take, getD-drop, drop-drop, take-all, take-at}
 use lib.Dec.{eqb}
 use borrow.Author.Tests.{eq-eqb, ne-eqb, le-leb, lt-leb, le-ltb, lt-ltb}
-use Rattle.lists.proofs.Bools.{cond-by, one-of-two}
+use Rattle.lists.proofs.Bools.{by-test, not-true-false, cond-by, one-of-two}
 use Rattle.lists.proofs.Checks.{refused-at, refused-none}
 use Rattle.octets.specs.Octets.{numberOf, octetsOf, stored}
 use Rattle.octets.proofs.Laws.{length-octets, number-octets-small, stored-front, take-elements}
@@ -120,18 +120,13 @@ unfolding readList
 answer-of s b e = rw e
 
 pub list-refused : (s : List ℕ) → (readList s .number ≡ 0 → ⊥) → listFits s ≡ false
-list-refused s n = go (listFits s) refl
-  where
-    go : (b : Bool) → listFits s ≡ b → b ≡ false
-    go true e = absurd (n (ap (λ (r : ListRead). r .number) (answer-of s true e)))
-    go false e = refl
+list-refused s n = not-true-false (λ e. n (ap (λ (r : ListRead). r .number) (answer-of s true e)))
 
 pub list-accepted : (s : List ℕ) → readList s .number ≡ 0 → (listFits s ≡ true) × (readList s .election ≡ electionIn s)
-list-accepted s h = go (listFits s) refl
-  where
-    go : (b : Bool) → listFits s ≡ b → (listFits s ≡ true) × (readList s .election ≡ electionIn s)
-    go true e = (e, ap (λ (r : ListRead). r .election) (answer-of s true e))
-    go false e = absurd (omega (arith, h, ap (λ (r : ListRead). r .number) (answer-of s false e)))
+list-accepted s h =
+    by-test (listFits s)
+    (λ e. (e, ap (λ (r : ListRead). r .election) (answer-of s true e)))
+    (λ e. absurd (omega (arith, h, ap (λ (r : ListRead). r .number) (answer-of s false e))))
 
 -- THE WAY BACK: what was written reads as it was meant
 under-again : (a : ℕ) (ac d : Bool) (p : ℕ) → electionUnder a ac (electionUnder a ac d p .dp) (electionUnder a ac d p .preference) ≡ electionUnder a ac d p

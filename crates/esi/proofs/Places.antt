@@ -13,6 +13,7 @@ use lib.Arith.{digits-div, digits-mod}
 use lib.Dec.{ltb, eqb}
 use borrow.Author.Tests.{eq-eqb, ne-eqb, eqb-true, lt-ltb, ltb-true}
 use Rattle.lists.specs.Lists.{tabulate}
+use Rattle.lists.proofs.Bools.{cond-by}
 use Rattle.lists.proofs.Lists.{length-tabulate, getD-tabulate}
 use Rattle.octets.proofs.Laws.{Octets, octets-nil, octets-cons}
 use Rattle.esi.specs.Text.{digitValue, digitOf, rightAt, wrongFrom, firstWrong, rightIn, FirstFault, octetAt, esiIn, textAt, textOf, lower, lowerCase}
@@ -106,14 +107,10 @@ wrong-before (c ∷ t) i (suc k) h =
     let rest = wrong-before t (suc i) k (rw (r, step) at h) in
     (omega (arith, rest .0), rw step (rest .1))
 
-cond-from : (b : Bool) (x i : ℕ) → suc i ≤ x → i ≤ cond b x i
-cond-from true x i h = omega arith
-cond-from false x i h = omega arith
-
 wrong-from : (t : List ℕ) (i : ℕ) → i ≤ wrongFrom i t
 unfolding wrongFrom
 wrong-from [] i = omega arith
-wrong-from (c ∷ t) i = cond-from (rightAt i c) (wrongFrom (suc i) t) i (wrong-from t (suc i))
+wrong-from (c ∷ t) i = cond-by (λ (n : ℕ). i ≤ n) (rightAt i c) (λ _. omega (arith, wrong-from t (suc i))) (λ _. omega arith)
 
 cond-still : (b : Bool) (x i : ℕ) → suc i ≤ x → cond b x i ≡ i → b ≡ false
 cond-still true x i h e = absurd (omega arith)

@@ -11,7 +11,7 @@ use lib.ListN.{length, getD, drop, drop-of-length-le}
 use lib.Seq.{drop-cons}
 use lib.Pow.{pow-pos, split}
 use lib.Dec.{eqb}
-use lib.Bits.{bitXor, differ, xor-mod, xor-shifted, shifted-half, shifted-even}
+use lib.Bits.{bitXor, differ, xor-shifted, shifted-half, shifted-even}
 use Rattle.octets.specs.Octets.{octetsOf}
 use Rattle.hrw.specs.Crc.{polynomial, allOnes, crcBit, crcBits, crcOctet, crcOver, crc32Of}
 use Rattle.hrw.specs.Weight.{digestOver, digestOf, weightOf}
@@ -90,8 +90,6 @@ pub crc32-check : crc32Of (49 ∷ 50 ∷ 51 ∷ 52 ∷ 53 ∷ 54 ∷ 55 ∷ 56 �
 unfolding crcBit crcBits crcOctet crcOver crc32Of
 crc32-check = refl
 
--- ---- bounds
-
 -- ---- the low 31 bits decide a weight
 
 -- the step of document 01's formula, which it takes twice
@@ -113,12 +111,3 @@ step-mod = linear-mod 1103515245 12345 (2 ^ 31)
 pub weightOf-reduced : (a d : ℕ) → weightOf a d ≡ step (bitXor (step a) d % 2 ^ 31) % 2 ^ 31
 unfolding weightOf
 weightOf-reduced a d = step-mod (bitXor (step a) d)
-
--- a weight depends on the address's low 31 bits only
-pub weightOf-low : (a d : ℕ) → weightOf a d ≡ weightOf (a % 2 ^ 31) d
-weightOf-low a d =
-    let l = a % 2 ^ 31 in
-    weightOf-reduced a d
-    ∙ ap (λ (n : ℕ). step n % 2 ^ 31)
-    (xor-mod (step a) d 31 ∙ ap (λ (n : ℕ). bitXor n (d % 2 ^ 31)) (step-mod a) ∙ sym (xor-mod (step l) d 31))
-    ∙ sym (weightOf-reduced l d)

@@ -1,13 +1,13 @@
 -- Laws of tests, and of a test as a number. Assumes nothing.
 use Prim.Native.Nat.{ℕ, zero, suc, _+_, _*_, _/_, _%_, _≤_, _<_}
 use native.Mathlib.Omega.{arith}
-use native.Mathlib.Decide.{ℕ-discrete}
 use mathlib.Core.Path.{_≡_, refl, ap}
 use mathlib.Core.Bool.{Bool, true, false, cond, not, _||_}
 use lib.Dec.{eqb}
 use mir.Val.{boolByte}
 use borrow.Author.Tests.{not-true, eqb-false, eq-eqb, ne-eqb}
 use Rattle.lists.specs.Lists.{bit}
+use Rattle.lists.proofs.Numbers.{whether}
 
 -- ONE TEST
 pub true-false : {b : Bool} → b ≡ true → b ≡ false → ⊥
@@ -37,7 +37,11 @@ or-swap true false c = refl
 or-swap false true c = refl
 or-swap false false c = refl
 
--- what holds of both cases of a choice
+-- the two cases of a test, and what holds of both cases of a choice
+pub by-test : {P : Type 0} (b : Bool) → (b ≡ true → P) → (b ≡ false → P) → P
+by-test true f g = f refl
+by-test false f g = g refl
+
 module _ {A : Type 0} where
   pub cond-by : (P : A → Type 0) (b : Bool) {x y : A} → (b ≡ true → P x) → (b ≡ false → P y) → P (cond b x y)
   cond-by P true f g = f refl
@@ -55,11 +59,10 @@ not-eq h = eqb-false _ _ (not-true _ h)
 
 -- one of two numbers that follow each other
 pub one-of-two : (n a : ℕ) → n ≤ a → a ≤ suc n → (eqb a n || eqb a (suc n)) ≡ true
-one-of-two n a h k = go (ℕ-discrete a n)
-  where
-    go : Dec (a ≡ n) → (eqb a n || eqb a (suc n)) ≡ true
-    go (yes e) = rw (eq-eqb a n e)
-    go (no d) = let e : a ≡ suc n = omega (arith, d) in rw (ne-eqb a n d, eq-eqb a (suc n) e)
+one-of-two n a h k =
+    whether a n
+    (λ e. rw (eq-eqb a n e))
+    (λ d. let e : a ≡ suc n = omega (arith, d) in rw (ne-eqb a n d, eq-eqb a (suc n) e))
 
 -- A TEST AS A NUMBER, also as the code makes it one
 pub bit-of : (b : Bool) → boolByte b ≡ bit b

@@ -1,4 +1,4 @@
-pub mod Bools
 pub mod Numbers
+pub mod Bools
 pub mod Checks
 pub mod Lists

@@ -4,9 +4,10 @@ use native.Mathlib.Nat.{zero-add, suc-add, not-suc-le-zero, le-of-suc-le-suc}
 use native.Mathlib.Numerals.{add-one}
 use native.Mathlib.Omega.{arith}
 use mathlib.Core.Path.{_≡_, refl, ap, _∙_, subst}
+use mathlib.Core.Bool.{Bool, true, false, and-false}
 use mathlib.Core.List.{List, [], _∷_, _++_, map, List·Memᴰ, List·Memᴰ·head, List·Memᴰ·tail, List·Permᴰ, List·Permᴰ·nil, List·Permᴰ·cons, List·Permᴰ·swap, List·Permᴰ·trans}
 use lib.ListN.{length, getD, set, take, drop}
-use Rattle.lists.specs.Lists.{Every, tabulate}
+use Rattle.lists.specs.Lists.{Every, all, tabulate}
 
 pub perm-length {ℓ} : {A : Type ℓ} {l m : List A} → List·Permᴰ l m → length l ≡ length m
 perm-length List·Permᴰ·nil = refl
@@ -72,6 +73,19 @@ module _ {A : Type 0} where
     every-perm (List·Permᴰ·cons q h) g = (subst P q (g .0), every-perm h (g .1))
     every-perm (List·Permᴰ·swap q r) g = (subst P r (g .1 .0), (subst P q (g .0), g .1 .1))
     every-perm (List·Permᴰ·trans h k) g = every-perm k (every-perm h g)
+
+  -- A TEST OF EVERY ELEMENT
+  module _ (test : A → Bool) where
+    pub all-each : (l : List A) (d : A) → ((i : ℕ) → i < length l → test (getD l i d) ≡ true) → all test l ≡ true
+    unfolding all
+    all-each [] d h = refl
+    all-each (x ∷ l) d h = rw (h 0 (omega arith)) (all-each l d (λ i k. h (suc i) (omega arith)))
+
+    pub all-not : (l : List A) (i : ℕ) (d : A) → i < length l → test (getD l i d) ≡ false → all test l ≡ false
+    unfolding all
+    all-not [] i d h n = absurd (not-suc-le-zero h)
+    all-not (x ∷ l) zero d h n = rw n
+    all-not (x ∷ l) (suc i) d h n = rw (all-not l i d (le-of-suc-le-suc h) n) (and-false (test x))
 
   -- TABULATED
   pub length-tabulate : (n : ℕ) (f : ℕ → A) → length (tabulate n f) ≡ n

@@ -2,11 +2,11 @@
 -- Assumes nothing.
 use Prim.Native.Nat.{ℕ, zero, suc, _+_, _*_, _/_, _%_, _^_, _≤_, _<_}
 use native.Mathlib.Nat.{pow-succ', one-le-pow}
-use native.Mathlib.Nat.{div-one, mod-one, mod-lt, mod-eq-of-lt, not-suc-le-zero, le-of-suc-le-suc, le-refl, le-of-eq, add-assoc, zero-add}
+use native.Mathlib.Nat.{div-one, mod-one, mod-lt, mod-eq-of-lt, le-refl, le-of-eq, add-assoc, zero-add}
 use native.Mathlib.Numerals.{add-one}
 use native.Mathlib.Omega.{arith}
 use mathlib.Core.Path.{_≡_, refl, ap, ap₂, _∙_, sym, subst}
-use mathlib.Core.Bool.{true, false, false≢true, and-eq-true-iff, and-false}
+use mathlib.Core.Bool.{true, false, false≢true, and-eq-true-iff}
 use mathlib.Core.List.{List, [], _∷_, _++_, append-assoc, append-nil}
 use lib.ListN.{length, getD, set, take, drop, replicate, length-append, length-drop, drop-of-length-le}
 use lib.Seq.{take-at, take-append-seam, take-length, length-take-le, drop-append-add, drop-drop, getD-drop, length-paste, paste-suc, take-all, drop-cons}
@@ -14,6 +14,7 @@ use lib.Arith.{mod-mul}
 use lib.Dec.{leb, eqb}
 use borrow.Author.Tests.{eq-eqb, ne-eqb, eqb-true, le-leb, lt-leb, leb-true}
 use Rattle.lists.proofs.Bools.{cond-by, not-true-false}
+use Rattle.lists.proofs.Lists.{all-each, all-not}
 use Rattle.octets.specs.Octets.{numberOf, octetsOf, sameNumbers, allAre, stored}
 
 -- ---- every element is an octet
@@ -66,14 +67,11 @@ same-differ a b h = not-true-false (λ t. h (same-equal a b t))
 
 pub all-are-each : (x : ℕ) (s : List ℕ) → ((i : ℕ) → i < length s → getD s i 0 ≡ x) → allAre x s ≡ true
 unfolding allAre
-all-are-each x [] h = refl
-all-are-each x (y ∷ s) h = rw (eq-eqb y x (h 0 (omega arith))) (all-are-each x s (λ i k. h (suc i) (omega arith)))
+all-are-each x s h = all-each (λ y. eqb y x) s 0 (λ i k. eq-eqb _ _ (h i k))
 
 pub all-are-not : (x : ℕ) (s : List ℕ) (i : ℕ) → i < length s → (getD s i 0 ≡ x → ⊥) → allAre x s ≡ false
 unfolding allAre
-all-are-not x [] i h n = absurd (not-suc-le-zero h)
-all-are-not x (y ∷ s) zero h n = rw (ne-eqb y x n)
-all-are-not x (y ∷ s) (suc i) h n = rw (all-are-not x s i (le-of-suc-le-suc h) n) (and-false (eqb y x))
+all-are-not x s i h n = all-not (λ y. eqb y x) s i 0 h (ne-eqb _ _ n)
 
 -- ---- numbers from and to octets
 

@@ -9,6 +9,7 @@ use mathlib.Core.Bool.{Bool, true, false, cond, _&&_}
 use mathlib.Core.List.{List, [], _∷_, _++_}
 use lib.ListN.{length, take, drop}
 use lib.Dec.{leb, eqb}
+use Rattle.lists.specs.Lists.{all}
 
 unfoldable pub numberOf : List ℕ → ℕ
 numberOf [] = 0
@@ -25,8 +26,7 @@ sameNumbers (x ∷ a) [] = false
 sameNumbers (x ∷ a) (y ∷ b) = eqb x y && sameNumbers a b
 
 unfoldable pub allAre : ℕ → List ℕ → Bool
-allAre x [] = true
-allAre x (y ∷ s) = eqb y x && allAre x s
+allAre x s = all (λ y. eqb y x) s
 
 unfoldable pub stored : List ℕ → ℕ → List ℕ → List ℕ
 stored d at s = cond (leb (at + length s) (length d)) (take at d ++ s ++ drop (at + length s) d) d

@@ -81,7 +81,7 @@ query-accepted r h = rw (eq-eqb (r .number) 0 h)
 
 -- what is put where there is room is written
 pub written : {d : List ℕ} {at : ℕ} {s : List ℕ} {r : ℕ} {e : List ℕ} → Put d at s r e → at + length s ≤ length d → Written d at s r e
-written p h = record { fits = h; offset = put-place p h; buffer = p .buffer }
+written p h = record { fits = h; place = put-place p h; buffer = p .buffer }
 
 -- pieces that are put one after another are written as a whole
 pub written-all : {d : List ℕ} {at : ℕ} {s : List ℕ} {r : ℕ} {e t : List ℕ}

@@ -18,7 +18,7 @@ use Rattle.records.specs.Records.{Turn, stateIn}
 
 pub record Written (d : List ℕ) (at : ℕ) (s : List ℕ) (r : ℕ) (e : List ℕ) : Type 0 where
   pub fits : at + length s ≤ length d
-  pub offset : r ≡ at + length s
+  pub place : r ≡ at + length s
   pub buffer : e ≡ stored d at s
 
 pub record Stepped (d : List ℕ) (at : ℕ) (u : Turn) (r : Step) (w e : List ℕ) : Type 0 where

@@ -8,6 +8,7 @@ use mathlib.Core.List.{List, [], _∷_}
 use lib.ListN.{length, getD, set, replicate, length-replicate, getD-replicate, length-set, length-map}
 use lib.Dec.{eqb}
 use borrow.Author.Tests.{eq-eqb, ne-eqb}
+use Rattle.lists.specs.Lists.{all}
 use Rattle.lists.proofs.Bools.{bit-halves, one-of-two}
 use Rattle.address.specs.Address.{addressKey, isZero}
 use Rattle.keyed.specs.Keyed.{Rising, cut}
@@ -62,17 +63,17 @@ module _ (es : List Entry) (g : ℕ) where
   under s = allUnder g (entriesAt es (places s))
 
   pub under-end : (s : ℕ) → s ≡ 0 → true ≡ under s
-  unfolding allUnder
+  unfolding allUnder all
   under-end s z = rw (ap places z ∙ places-none)
 
   -- one place of it
   module _ (s f x : ℕ) (ps : List ℕ) (next : places s ≡ f ∷ ps) (k : x ≡ getD es f noEntry .algorithm) where
     pub under-other : (x ≡ g → ⊥) → false ≡ under s
-    unfolding allUnder
+    unfolding allUnder all
     under-other n = sym (ap (λ (l : List ℕ). allUnder g (entriesAt es l)) next ∙ rw (ne-eqb (getD es f noEntry .algorithm) g (λ e. n (k ∙ e))))
 
     pub under-same : x ≡ g → under s ≡ allUnder g (entriesAt es ps)
-    unfolding allUnder
+    unfolding allUnder all
     under-same e = ap (λ (l : List ℕ). allUnder g (entriesAt es l)) next ∙ rw (eq-eqb (getD es f noEntry .algorithm) g (sym k ∙ e))
 
 -- a set is empty exactly if no route stands at its places

@@ -7,10 +7,11 @@
 --   advertised g p d os        == the preference and DP that are sent, with the own algorithm g and the administrative pair p and d, beside the other routes os
 --   returningOf l a g p d      == the whole answer
 use Prim.Native.Nat.{ℕ}
-use mathlib.Core.Bool.{Bool, true, false, cond, not, _&&_, _||_}
-use mathlib.Core.List.{List, [], _∷_}
+use mathlib.Core.Bool.{Bool, false, cond, not, _&&_, _||_}
+use mathlib.Core.List.{List}
 use lib.ListN.{length}
 use lib.Dec.{leb, eqb}
+use Rattle.lists.specs.Lists.{all}
 use Rattle.address.specs.Address.{addressKey, isZero}
 use Rattle.keyed.specs.Keyed.{remove}
 use Rattle.layout.specs.Table.{Entry, entryKey, noEntry}
@@ -23,8 +24,7 @@ abbrev pub others : ℕ → List Entry → List Entry
 others a l = remove entryKey (addressKey a) l
 
 unfoldable pub allUnder : ℕ → List Entry → Bool
-allUnder g [] = true
-allUnder g (e ∷ l) = eqb (e .algorithm) g && allUnder g l
+allUnder g l = all (λ e. eqb (e .algorithm) g) l
 
 unfoldable pub reaches : ℕ → ℕ → ℕ → Bool
 reaches g p q = cond (eqb g 3) (leb p q) (leb q p)

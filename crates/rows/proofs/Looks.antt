@@ -6,7 +6,7 @@ use mathlib.Core.Path.{_≡_, refl, ap, _∙_}
 use mathlib.Core.List.{List, [], _∷_}
 use lib.ListN.{length, getD}
 use borrow.Author.Tests.{lt-ltb, le-ltb}
-use Rattle.lists.proofs.Numbers.{either}
+use Rattle.lists.proofs.Numbers.{either, ordered}
 use Rattle.rows.specs.Rows.{middle, looked, firstLook, looksFor}
 
 pub first-lt : (first n : ℕ) → 0 < n → firstLook first n < n
@@ -44,12 +44,10 @@ module _ (m : ℕ) (ks : List ℕ) where
   one-more f lo at hi b r l =
       either lo hi
       (λ p.
-      either (keyAt at) m
+      ordered (keyAt at) m
       (λ q. rw (go-right f lo at hi p q) (suc-le-suc r))
-      (λ q.
-      either m (keyAt at)
-      (λ u. rw (go-left f lo at hi p u) (suc-le-suc l))
-      (λ u. rw (stop-here f lo at hi p (omega arith)) (suc-le-suc zero-le))))
+      (λ q. rw (stop-here f lo at hi p q) (suc-le-suc zero-le))
+      (λ q. rw (go-left f lo at hi p q) (suc-le-suc l)))
       (λ p. rw (none-left (suc f) lo at hi p) zero-le)
 
   -- a range of fewer than 2^j places takes at most j looks, the first in its middle

@@ -1,6 +1,7 @@
 -- The starred values of document 01 hold, all of them, by computation. Assumes nothing.
 use mathlib.Core.Path.{_≡_, refl}
 use mathlib.Core.Bool.{true}
+use Rattle.lists.specs.Lists.{all}
 use Rattle.octets.specs.Octets.{numberOf, octetsOf, sameNumbers}
 use Rattle.address.specs.Address.{addressKey, isZero}
 use Rattle.keyed.specs.Keyed.{remove}
@@ -16,5 +17,5 @@ use Rattle.returning.specs.Returning.{allUnder, reaches, besideReference, adver
 use Rattle.segment.specs.Values.{starred, allRight}
 
 pub starred-right : allRight starred ≡ true
-unfolding allRight numberOf octetsOf sameNumbers addressKey isZero remove electionUnder communityOctets readCommunity setOf picked best bestOf weightOf allCarry inUse onList eligible candidates candidateSet better elected reservedTag answerOf electOf allUnder reaches besideReference advertised returningOf
+unfolding allRight all numberOf octetsOf sameNumbers addressKey isZero remove electionUnder communityOctets readCommunity setOf picked best bestOf weightOf allCarry inUse onList eligible candidates candidateSet better elected reservedTag answerOf electOf allUnder reaches besideReference advertised returningOf
 starred-right = refl

@@ -10,7 +10,7 @@ use lib.Dec.{ltb, eqb}
 use borrow.Author.Tests.{not-false, lt-ltb, le-ltb, ltb-true, ne-eqb, eqb-true}
 use Rattle.lists.specs.Checks.{firstRefusal}
 use Rattle.lists.specs.Lists.{Every}
-use Rattle.lists.proofs.Bools.{cond-by, eq-not, ne-not}
+use Rattle.lists.proofs.Bools.{by-test, cond-by, eq-not, ne-not}
 use Rattle.lists.proofs.Checks.{passed-on, refused-at, refused-none, passed, telling-own}
 use Rattle.octets.specs.Octets.{sameNumbers}
 use Rattle.octets.proofs.Laws.{same-equal}
@@ -158,16 +158,10 @@ module _ (i r c : List ℕ) (p : Bool) (n : ℕ) (h : announceNumber i r c p n �
 -- EVERY CALL KEEPS A TABLE WELL FORMED
 -- the length of an insertion that there is room for
 length-inserted : (e : Entry) (l : List Entry) → Rising entryKey 1 l → length l ≤ 64 → (has entryKey (entryKey e) l || ltb (length l) 64) ≡ true → length (insert entryKey e l) ≤ 64
-length-inserted e l r s h = go (has entryKey (entryKey e) l) refl h
-  where
-    go : (b : Bool) → has entryKey (entryKey e) l ≡ b → (b || ltb (length l) 64) ≡ true → length (insert entryKey e l) ≤ 64
-    go true q v =
-        omega (
-          arith,
-          ap length (keyed.insert-present entryKey e l noEntry (keyed.present-of entryKey (entryKey e) l 1 noEntry r q)),
-          length-set l (rank entryKey (entryKey e) l) e,
-        )
-    go false q v = omega (arith, length-insert entryKey e l q, ltb-true (length l) 64 v)
+length-inserted e l r s h =
+    by-test (has entryKey (entryKey e) l)
+    (λ q. omega (arith, ap length (keyed.insert-present entryKey e l noEntry (keyed.present-of entryKey (entryKey e) l 1 noEntry r q)), length-set l (rank entryKey (entryKey e) l) e))
+    (λ q. omega (arith, length-insert entryKey e l q, ltb-true (length l) 64 (rw q at h)))
 
 chosen-kept : (n p : ℕ) (old new : Table) → WellFormed old → (n ≡ 0 → WellFormed new) → WellFormed (changed n p old new .table)
 chosen-kept n p old new w f = cond-by WellFormed (eqb n 0) (λ e. f (eqb-true n 0 e)) (λ _. w)

@@ -1,13 +1,13 @@
 -- The order of candidates by score and address is document 01's order, and document 01's order tells addresses apart. Assumes nothing.
-use Prim.Native.Nat.{ℕ, _+_, _-_, _*_, _≤_, _<_}
+use Prim.Native.Nat.{ℕ, _+_, _-_, _*_, _<_}
 use native.Mathlib.Omega.{arith}
 use mathlib.Core.Path.{_≡_, refl, ap₂, _∙_, sym}
 use mathlib.Core.Bool.{Bool, true, false, cond, not, _&&_}
 use lib.Dec.{ltb, eqb}
 use borrow.Author.Tests.{lt-ltb, le-ltb}
 use Rattle.lists.specs.Lists.{bit}
-use Rattle.lists.proofs.Bools.{cond-by}
-use Rattle.lists.proofs.Numbers.{Tri, less, equal, more, tri}
+use Rattle.lists.proofs.Bools.{bit-less, cond-by}
+use Rattle.lists.proofs.Numbers.{either, ordered}
 use Rattle.layout.specs.Table.{Entry, entryKey}
 use Rattle.layout.proofs.Words.{Narrow}
 use Rattle.hrw.specs.Weight.{weightOf}
@@ -37,39 +37,26 @@ withBit p b = p * 2 + bit b
 
 module _ (p q : ℕ) where
   with-higher : (b c : Bool) (r : Bool) → decided (ltb q p) (ltb p q) (decided (b && not c) (c && not b) r) ≡ decided (ltb (withBit q c) (withBit p b)) (ltb (withBit p b) (withBit q c)) r
-  with-higher b c r = go (tri p q) b c
+  with-higher b c r =
+      let s = bit-less b in
+      let t = bit-less c in
+      ordered p q
+      (λ h. rw (le-ltb q p (omega arith), lt-ltb p q h, le-ltb (withBit q c) (withBit p b) (omega arith), lt-ltb (withBit p b) (withBit q c) (omega arith)))
+      (λ h. rw (le-ltb q p (omega arith), le-ltb p q (omega arith)) (level h b c))
+      (λ h. rw (lt-ltb q p h, lt-ltb (withBit q c) (withBit p b) (omega arith)))
     where
-      go : Tri p q → (b c : Bool) → decided (ltb q p) (ltb p q) (decided (b && not c) (c && not b) r) ≡ decided (ltb (withBit q c) (withBit p b)) (ltb (withBit p b) (withBit q c)) r
-      go (less h) b c = rw (le-ltb q p (omega arith), lt-ltb p q h, le-ltb (withBit q c) (withBit p b) (high b c), lt-ltb (withBit p b) (withBit q c) (above b c))
-        where
-          above : (b c : Bool) → withBit p b < withBit q c
-          above true true = omega arith
-          above true false = omega arith
-          above false true = omega arith
-          above false false = omega arith
-
-          high : (b c : Bool) → withBit p b ≤ withBit q c
-          high b c = omega (arith, above b c)
-      go (equal h) true true = rw (le-ltb q p (omega arith), le-ltb p q (omega arith), le-ltb (withBit q true) (withBit p true) (omega arith), le-ltb (withBit p true) (withBit q true) (omega arith))
-      go (equal h) true false = rw (le-ltb q p (omega arith), le-ltb p q (omega arith), lt-ltb (withBit q false) (withBit p true) (omega arith))
-      go (equal h) false true = rw (le-ltb q p (omega arith), le-ltb p q (omega arith), le-ltb (withBit q true) (withBit p false) (omega arith), lt-ltb (withBit p false) (withBit q true) (omega arith))
-      go (equal h) false false = rw (le-ltb q p (omega arith), le-ltb p q (omega arith), le-ltb (withBit q false) (withBit p false) (omega arith), le-ltb (withBit p false) (withBit q false) (omega arith))
-      go (more h) b c = rw (lt-ltb q p h, lt-ltb (withBit q c) (withBit p b) (below b c))
-        where
-          below : (b c : Bool) → withBit q c < withBit p b
-          below true true = omega arith
-          below true false = omega arith
-          below false true = omega arith
-          below false false = omega arith
+      level : p ≡ q → (b c : Bool) → decided (b && not c) (c && not b) r ≡ decided (ltb (withBit q c) (withBit p b)) (ltb (withBit p b) (withBit q c)) r
+      level h true true = rw (le-ltb (withBit q true) (withBit p true) (omega arith), le-ltb (withBit p true) (withBit q true) (omega arith))
+      level h true false = rw (lt-ltb (withBit q false) (withBit p true) (omega arith))
+      level h false true = rw (le-ltb (withBit q true) (withBit p false) (omega arith), lt-ltb (withBit p false) (withBit q true) (omega arith))
+      level h false false = rw (le-ltb (withBit q false) (withBit p false) (omega arith), le-ltb (withBit p false) (withBit q false) (omega arith))
 
 -- counted from above, the lower number is the higher
 from-above : (p q : ℕ) → p < 65536 → q < 65536 → ltb p q ≡ ltb (65535 - q) (65535 - p)
-from-above p q h k = go (tri p q)
-  where
-    go : Tri p q → ltb p q ≡ ltb (65535 - q) (65535 - p)
-    go (less l) = lt-ltb p q l ∙ sym (lt-ltb (65535 - q) (65535 - p) (omega arith))
-    go (equal e) = le-ltb p q (omega arith) ∙ sym (le-ltb (65535 - q) (65535 - p) (omega arith))
-    go (more m) = le-ltb p q (omega arith) ∙ sym (le-ltb (65535 - q) (65535 - p) (omega arith))
+from-above p q h k =
+    either p q
+    (λ l. lt-ltb p q l ∙ sym (lt-ltb (65535 - q) (65535 - p) (omega arith)))
+    (λ l. le-ltb p q l ∙ sym (le-ltb (65535 - q) (65535 - p) (omega arith)))
 
 pub better-score : (a d : ℕ) (x y : Entry) → Narrow x → Narrow y → better a d x y ≡ byScore (scoreOf a d) entryKey x y
 unfolding better scoreOf
