@@ -95,7 +95,7 @@ written-as {d} {at} {s} {t} {r} {e} w q = subst (λ (l : List ℕ). Written d at
 -- no octets written into a buffer
 pub written-none : (d : List ℕ) (at : ℕ) → at ≤ length d → Written d at [] at d
 written-none d at h =
-    record { fits = omega arith; offset = omega arith; buffer = sym (stored-fits d at [] (omega arith) ∙ rw (add-zero, append-nil) (take-append-drop at d)) }
+    record { fits = omega arith; place = omega arith; buffer = sym (stored-fits d at [] (omega arith) ∙ rw (add-zero, append-nil) (take-append-drop at d)) }
 
 -- ---- words copied
 

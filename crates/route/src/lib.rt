@@ -1,9 +1,9 @@
 // The Ethernet Segment route of RFC 7432: checking one, reading its fields, and writing one.
 use address::Address;
-use refusals::WRONG_ADDRESS_LENGTH;
 use refusals::ADDRESS_ZERO;
 use refusals::BUFFER_SHORT;
 use refusals::ESI_RESERVED;
+use refusals::WRONG_ADDRESS_LENGTH;
 use refusals::WRONG_LENGTH;
 use refusals::WRONG_TYPE;
 ghost use mathlib.Core.Path.{_≡_};
