@@ -1,11 +1,12 @@
 -- The best candidate of a set of places is found by a walk over the scores. Assumes nothing.
-use Prim.Native.Nat.{ℕ, _+_, _-_, _*_, _%_, _^_, _≤_, _<_}
-use native.Mathlib.Nat.{mod-lt}
+use Prim.Native.Nat.{ℕ, _+_, _-_, _*_, _/_, _%_, _^_, _≤_, _<_, min}
+use native.Mathlib.Nat.{mod-lt, min-zero, add-zero}
 use native.Mathlib.Omega.{arith}
-use mathlib.Core.Path.{_≡_, refl, ap, _∙_, sym}
+use mathlib.Core.Path.{_≡_, refl, ap, ap₂, _∙_, sym}
 use mathlib.Core.Bool.{Bool, cond}
 use mathlib.Core.List.{List, [], _∷_, map}
 use lib.ListN.{length, getD, length-map, List·getD-map, List·getD-eq-default}
+use lib.Bits.{bitAnd, bitXor, and-step, and-mask, xor-add-and}
 use borrow.Author.Tests.{eq-eqb, ne-eqb}
 use Rattle.keyed.proofs.Keyed as keyed
 use Rattle.lists.specs.Lists.{Every}
@@ -24,11 +25,26 @@ use Rattle.winner.specs.Steps.{scoreOf}
 use Rattle.winner.proofs.Orders.{better-score}
 
 -- SCORES, from an entry's standing
-pub score-turned : (a d s : ℕ) (e : Entry) → Narrow e → (a ≡ 1 → ⊥) → a ≡ 3 → s ≡ standingOf e → 131070 + s % 2 * 2 - s ≡ scoreOf a d e
+over-of : (x s : ℕ) → x + s / 2 * 2 * 2 ≡ s + 131070 → x ≡ 131070 + s % 2 * 2 - s
+over-of x s e = omega arith
+
+-- the bits of a preference turned over count it down from the greatest
+turned-over : (s : ℕ) → s < 131072 → bitXor s 131070 ≡ 131070 + s % 2 * 2 - s
+turned-over s h =
+    let a : bitAnd s 131070 ≡ bitAnd (s / 2) 65535 * 2 + min (s % 2) 0 = and-step s 131070 in
+    let m : bitAnd (s / 2) 65535 ≡ s / 2 % 65536 = and-mask (s / 2) 16 in
+    let z : min (s % 2) 0 ≡ 0 = min-zero (s % 2) in
+    let w : s / 2 % 65536 ≡ s / 2 = omega arith in
+    let b : bitAnd s 131070 ≡ s / 2 * 2 = a ∙ ap₂ (λ (x y : ℕ). x * 2 + y) (m ∙ w) z ∙ add-zero (s / 2 * 2) in
+    let x : bitXor s 131070 + bitAnd s 131070 * 2 ≡ s + 131070 = xor-add-and s 131070 in
+    let y : bitXor s 131070 + s / 2 * 2 * 2 ≡ s + 131070 = ap (λ (v : ℕ). bitXor s 131070 + v * 2) (sym b) ∙ x in
+    over-of (bitXor s 131070) s y
+
+pub score-turned : (a d s : ℕ) (e : Entry) → Narrow e → (a ≡ 1 → ⊥) → a ≡ 3 → s ≡ standingOf e → s < 131072 → bitXor s 131070 ≡ scoreOf a d e
 unfolding scoreOf standingOf
-score-turned a d s e h n t q =
+score-turned a d s e h n t q l =
     let b = bit-less (e .dp) in
-    rw (ne-eqb a 1 n, eq-eqb a 3 t) (omega (arith, b, h, q))
+    rw (ne-eqb a 1 n, eq-eqb a 3 t) (omega (arith, turned-over s l, b, h, q))
 
 pub score-plain : (a d s : ℕ) (e : Entry) → (a ≡ 1 → ⊥) → (a ≡ 3 → ⊥) → s ≡ standingOf e → s ≡ scoreOf a d e
 unfolding scoreOf standingOf

@@ -9,9 +9,9 @@ ghost use Rattle.choice.specs.Choice.{bestOf};
 ghost use Rattle.winner.specs.Winner.{better, elected, entriesAt};
 ghost use Rattle.winner.specs.Steps.{scoreOf};
 
-// Twice the greatest preference: under algorithm 3 preferences are counted down from the greatest. A standing is twice the preference and the DP bit, so what is
-// taken from here is the standing less its DP bit, and the bit stays added: once to make up for it, once for itself.
-const TWICE_GREATEST: u32 = 131070;
+// The bits of a standing that hold the preference: under algorithm 3 preferences are counted down from the greatest, which turns each of them over. The DP
+// bit behind them stays.
+const PREFERENCE: u32 = 131070;
 
 // The number by which a candidate is preferred under algorithm 1, 2 or 3, the greater the better: its weight, or its preference (under 3 counted from
 // above) with the DP bit behind it.
@@ -24,7 +24,7 @@ fn score(t: &[u32], at: usize, algorithm: u8, digest: u32) -> u32
     }
     let standing = layout::standing_at(t, at);
     if algorithm == 3 {
-        return TWICE_GREATEST + standing % 2 * 2 - standing;
+        return standing ^ PREFERENCE;
     }
     standing
 }

@@ -24,7 +24,7 @@ returns-2 : tie.Need-returns-2
 returns-2 c =
     let start = c .before .before .before .before in
     let b = now (start .args .t) in
-    score-turned (start .args .algorithm) (start .args .digest) _ (getD (tableIn b .entries) (start .args .at) noEntry) (narrow-entry b (start .pre .0) (start .args .at)) (c .before .before .if1 .left) (c .if2 .taken) (c .before .standing-at .ensures .0)
+    score-turned (start .args .algorithm) (start .args .digest) _ (getD (tableIn b .entries) (start .args .at) noEntry) (narrow-entry b (start .pre .0) (start .args .at)) (c .before .before .if1 .left) (c .if2 .taken) (c .before .standing-at .ensures .0) (c .before .standing-at .ensures .1)
 
 returns-3 : tie.Need-returns-3
 returns-3 c =
@@ -39,8 +39,5 @@ score-spec =
     (λ c κs. search needs)
     returns
     (λ c κs. search needs)
-    (λ c. search needs)
-    (λ c. search needs)
-    (λ c. search needs)
     returns-2
     returns-3)
