@@ -85,11 +85,6 @@ pub digestOf-pieces : (tag : ℕ) (esi : List ℕ) → digestOf tag esi ≡ bitX
 unfolding digestOf
 digestOf-pieces tag esi = digestOver-append (octetsOf 4 tag) esi
 
--- document 01's check: the CRC-32 of the nine characters 123456789
-pub crc32-check : crc32Of (49 ∷ 50 ∷ 51 ∷ 52 ∷ 53 ∷ 54 ∷ 55 ∷ 56 ∷ 57 ∷ []) ≡ 0xCBF4_3926
-unfolding crcBit crcBits crcOctet crcOver crc32Of
-crc32-check = refl
-
 -- ---- the low 31 bits decide a weight
 
 -- the step of document 01's formula, which it takes twice

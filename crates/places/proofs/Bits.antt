@@ -1,11 +1,12 @@
--- A number by its lowest bit: the clauses of `places`, of ones, of trailing zeros and of s & (s - 1) at even and at odd numbers, and induction bit by bit.
+-- A number by its lowest bit: the clauses of `places`, of ones, of trailing zeros, of s & (s - 1), s | (s - 1) and s & (s + 1) at even and at odd numbers, and induction bit by bit.
 -- Assumes nothing.
-use Prim.Native.Nat.{ℕ, zero, suc, _+_, _-_, _*_, _/_, _%_}
-use native.Mathlib.Nat.{zero-add}
+use Prim.Native.Nat.{ℕ, zero, suc, _+_, _-_, _*_, _/_, _%_, _^_}
+use native.Mathlib.Nat.{zero-add, two-pow-succ}
 use native.Mathlib.Omega.{arith}
 use mathlib.Core.Path.{_≡_, refl, subst}
 use mathlib.Core.List.{List, [], _∷_}
-use lib.Bits.{bitAnd, and-step, and-self}
+use lib.Pow.{pow-pos}
+use lib.Bits.{bitAnd, bitOr, bitXor, and-step, and-self, or-step, or-self, xor-step}
 use lib.Count.{ones, ones-step, trailingZeros}
 use Rattle.places.specs.Places.{placesFrom}
 
@@ -76,6 +77,46 @@ rest-even (suc p) =
     let h : (2 * suc p - 1) / 2 ≡ suc p - 1 = omega arith in
     let o : (2 * suc p - 1) % 2 ≡ 1 = omega arith in
     rw (and-step (2 * suc p) (2 * suc p - 1), half-even (suc p), low-even (suc p), h, o) (omega arith)
+
+-- s filled below its lowest one, and without its trailing ones
+pub fill-odd : (q : ℕ) → bitOr (2 * q + 1) (2 * q + 1 - 1) ≡ 2 * q + 1
+fill-odd q =
+    let h : 2 * q + 1 - 1 ≡ 2 * q = omega arith in
+    rw (h, or-step (2 * q + 1) (2 * q), half-odd q, half-even q, low-odd q, low-even q, or-self q) (omega arith)
+
+pub fill-even : (q : ℕ) → (q ≡ 0 → ⊥) → bitOr (2 * q) (2 * q - 1) ≡ 2 * bitOr q (q - 1) + 1
+fill-even q n =
+    let h : (2 * q - 1) / 2 ≡ q - 1 = omega arith in
+    let o : (2 * q - 1) % 2 ≡ 1 = omega arith in
+    rw (or-step (2 * q) (2 * q - 1), half-even q, low-even q, h, o) (omega arith)
+
+module _ (q : ℕ) where
+  pub clear-even : bitAnd (2 * q) (2 * q + 1) ≡ 2 * q
+  clear-even = rw (and-step (2 * q) (2 * q + 1), half-odd q, half-even q, low-odd q, low-even q, and-self q) (omega arith)
+
+  pub clear-odd : bitAnd (2 * q + 1) (2 * q + 1 + 1) ≡ 2 * bitAnd q (q + 1)
+  clear-odd =
+      let h : (2 * q + 1 + 1) / 2 ≡ q + 1 = omega arith in
+      let o : (2 * q + 1 + 1) % 2 ≡ 0 = omega arith in
+      rw (and-step (2 * q + 1) (2 * q + 1 + 1), half-odd q, low-odd q, h, o) (omega arith)
+
+-- the trailing ones of s, as the trailing zeros of its complement
+module _ (n q : ℕ) where
+  half-mask : (2 ^ suc n - 1) / 2 ≡ 2 ^ n - 1
+  half-mask = omega (arith, two-pow-succ n, pow-pos n)
+
+  low-mask : (2 ^ suc n - 1) % 2 ≡ 1
+  low-mask = omega (arith, two-pow-succ n, pow-pos n)
+
+  pub ones-end : trailingZeros (suc n) (bitXor (2 * q) (2 ^ suc n - 1)) ≡ 0
+  ones-end =
+      let e : bitXor (2 * q) (2 ^ suc n - 1) ≡ 2 * bitXor q (2 ^ n - 1) + 1 = rw (xor-step (2 * q) (2 ^ suc n - 1), half-even q, low-even q, half-mask, low-mask) (omega arith) in
+      rw e (trailing-odd (bitXor q (2 ^ n - 1)) n)
+
+  pub ones-more : trailingZeros (suc n) (bitXor (2 * q + 1) (2 ^ suc n - 1)) ≡ suc (trailingZeros n (bitXor q (2 ^ n - 1)))
+  ones-more =
+      let e : bitXor (2 * q + 1) (2 ^ suc n - 1) ≡ 2 * bitXor q (2 ^ n - 1) = rw (xor-step (2 * q + 1) (2 ^ suc n - 1), half-odd q, low-odd q, half-mask, low-mask) (omega arith) in
+      rw e (trailing-even (bitXor q (2 ^ n - 1)) n)
 
 -- no bits, and bits that are all zero
 pub from-none : (i s : ℕ) → placesFrom 0 i s ≡ []

@@ -6,13 +6,12 @@ use native.Mathlib.Omega.{arith}
 use mathlib.Core.Path.{_≡_, refl, ap, ap₂, sym, _∙_, subst}
 use mathlib.Core.Bool.{Bool, true, false, cond}
 use mathlib.Core.List.{List, [], _∷_, _++_}
-use lib.ListN.{length, getD, drop, length-drop, List·getD-eq-default}
-use lib.Seq.{getD-drop}
+use lib.ListN.{length, getD, drop}
 use lib.Dec.{lit<, eqb}
 use lib.Arith.{lt-one}
 use lib.Pow.{shl-exact, pow-mono}
 use lib.Bits.{bitAnd, and-le-r}
-use lib.Count.{ones, trailingZeros}
+use lib.Count.{ones, trailingZeros, trailing-le}
 use Rattle.places.specs.Places.{placesFrom, places}
 use Rattle.places.proofs.Bits.{over, cons-none, by-bits, from-even, from-odd, from-none, from-zero, ones-even, ones-odd, trailing-even, trailing-odd, rest-even, rest-odd}
 
@@ -80,7 +79,7 @@ empty-from =
     (λ n i q ih h e. let f : i ∷ placesFrom n (suc i) q ≡ [] = sym (from-odd n i q) ∙ e in absurd (cons-none f))
 
 -- places rise, from the first that is looked at to the last
-from-rises : (n i s : ℕ) → Rises i (i + n) (placesFrom n i s)
+pub from-rises : (n i s : ℕ) → Rises i (i + n) (placesFrom n i s)
 from-rises =
     by-bits (λ n i s. Rises i (i + n) (placesFrom n i s))
     (λ i s. rw (from-none i s) tt)
@@ -100,6 +99,9 @@ module _ (s : ℕ) where
   pub places-first : trailingZeros 64 s ≡ getD (places s) 0 64
   unfolding places
   places-first = sym (zero-add (trailingZeros 64 s)) ∙ first-from 64 0 s
+
+  pub first-le : getD (places s) 0 64 ≤ 64
+  first-le = rw (← places-first) (trailing-le 64 s)
 
   pub places-rest : places (bitAnd s (s - 1)) ≡ drop 1 (places s)
   unfolding places
@@ -163,14 +165,6 @@ places-none = from-zero 64 0
 abbrev pub total : List ℕ → ℕ
 total [] = 0
 total (p ∷ l) = 2 ^ p + total l
-
--- what a walk of k steps comes to: past the last place, and at a place
-module _ (l : List ℕ) (i k d : ℕ) where
-  pub walk-out : drop i l ≡ [] → i ≤ k → getD l k d ≡ d
-  walk-out e h = List·getD-eq-default l d (omega (arith, simp length-drop at (ap length e)))
-
-  pub walk-at : i ≡ k → getD (drop i l) 0 d ≡ getD l k d
-  walk-at e = getD-drop i l 0 d ∙ ap (λ (j : ℕ). getD l j d) (add-zero i ∙ e)
 
 -- a one that is shifted to a place
 pub shift-one : (i : ℕ) → i < 64 → 1 * 2 ^ i % 2 ^ 64 ≡ 2 ^ i

@@ -2,6 +2,8 @@
 -- set, and "List of forms by place": N counted by its ones, places found by trailing zeros).
 --   placesFrom n i s  == the places of the n lowest bits of s that are one, rising, the lowest bit counted as place i
 --   places s          == the places of the set s, rising
+--   consecutive i l   == how many of l, from the first on, are i, i + 1 and so on
+--   lowestRun l       == how long the first run of l is: how many of l, from the first on, are each one more than the one before
 --   setOf bs          == the set of the places whose flag is true: bit i is one exactly if the i-th flag of bs is true
 --   picked bs l       == the elements of l whose flag in bs is true, in their order
 --   withPlace s i     == the set s with the place i; s itself where i is no place, that is, 64 or more
@@ -10,6 +12,7 @@ use Prim.Native.Nat.{ℕ, zero, suc, _+_, _-_, _*_, _/_, _%_, _^_}
 use mathlib.Core.Bool.{Bool, cond, _&&_}
 use mathlib.Core.List.{List, [], _∷_, _++_}
 use lib.Dec.{ltb, eqb}
+use lib.ListN.{getD}
 use lib.Bits.{bitOr}
 
 unfoldable pub placesFrom : ℕ → ℕ → ℕ → List ℕ
@@ -18,6 +21,13 @@ placesFrom (suc n) i s = cond (eqb (s % 2) 1) (i ∷ []) [] ++ placesFrom n (suc
 
 unfoldable pub places : ℕ → List ℕ
 places s = placesFrom 64 0 s
+
+unfoldable pub consecutive : ℕ → List ℕ → ℕ
+consecutive i [] = 0
+consecutive i (x ∷ l) = cond (eqb x i) (suc (consecutive (suc i) l)) 0
+
+abbrev pub lowestRun : List ℕ → ℕ
+lowestRun l = consecutive (getD l 0 64) l
 
 unfoldable pub setOf : List Bool → ℕ
 setOf [] = 0

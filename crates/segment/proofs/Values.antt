@@ -8,6 +8,7 @@ use Rattle.keyed.specs.Keyed.{remove}
 use Rattle.community.specs.Community.{electionUnder, communityOctets, readCommunity}
 use Rattle.places.specs.Places.{setOf, picked}
 use Rattle.choice.specs.Choice.{best, bestOf}
+use Rattle.hrw.specs.Crc.{crcBit, crcBits, crcOctet, crcOver, crc32Of}
 use Rattle.hrw.specs.Weight.{weightOf}
 use Rattle.agreement.specs.Agreement.{allCarry, inUse}
 use Rattle.ready.specs.Ready.{onList, eligible, candidates, candidateSet}
@@ -17,5 +18,5 @@ use Rattle.returning.specs.Returning.{allUnder, reaches, besideReference, adver
 use Rattle.segment.specs.Values.{starred, allRight}
 
 pub starred-right : allRight starred ≡ true
-unfolding allRight all numberOf octetsOf sameNumbers addressKey isZero remove electionUnder communityOctets readCommunity setOf picked best bestOf weightOf allCarry inUse onList eligible candidates candidateSet better elected reservedTag answerOf electOf allUnder reaches besideReference advertised returningOf
+unfolding allRight all numberOf octetsOf sameNumbers addressKey isZero remove electionUnder communityOctets readCommunity setOf picked best bestOf crcBit crcBits crcOctet crcOver crc32Of weightOf allCarry inUse onList eligible candidates candidateSet better elected reservedTag answerOf electOf allUnder reaches besideReference advertised returningOf
 starred-right = refl

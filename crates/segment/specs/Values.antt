@@ -1,5 +1,5 @@
 -- The starred values of document 01 ("Values to hold against the definitions"), as one table: what the definitions that the contracts cite compute, beside what
--- the document says.
+-- the document says; before them the check of its CRC-32 ("The election", algorithm 1).
 --   Value       == numbers that a definition computes, and the numbers that they should be
 --   starred     == the table, in the document's order
 --   allRight l  == whether each value of l is what it should be
@@ -9,6 +9,7 @@ use mathlib.Core.List.{List, [], _∷_}
 use Rattle.lists.specs.Lists.{bit}
 use Rattle.octets.specs.Octets.{sameNumbers}
 use Rattle.community.specs.Community.{electionUnder, communityOctets, readCommunity}
+use Rattle.hrw.specs.Crc.{crc32Of}
 use Rattle.hrw.specs.Weight.{weightOf}
 use Rattle.winner.specs.Winner.{elected}
 use Rattle.election.specs.Election.{electOf}
@@ -67,8 +68,10 @@ value c r = record { computed = c; right = r }
 
 abbrev pub starred : List Value
 starred =
+    -- CRC-32 of the nine characters 123456789
+    value (crc32Of (49 ∷ 50 ∷ 51 ∷ 52 ∷ 53 ∷ 54 ∷ 55 ∷ 56 ∷ 57 ∷ []) ∷ []) (0xCBF4_3926 ∷ [])
     -- Weight, address 0, D 0; address 0, D 12345
-    value (weightOf 0 0 ∷ []) (1406932606 ∷ [])
+    ∷ value (weightOf 0 0 ∷ []) (1406932606 ∷ [])
     ∷ value (weightOf 0 12345 ∷ []) (12345 ∷ [])
     -- 0A000001 and 8A000001 hex tie at D 0; 10.0.0.1 wins
     ∷ value (weightOf one 0 ∷ []) (weightOf far 0 ∷ [])
