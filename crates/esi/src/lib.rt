@@ -35,7 +35,7 @@ const TEXT_LENGTH: usize = 29;
 // The character between two pairs of digits.
 const COLON: u8 = b':';
 
-// What reading a text gives: 0, offset 0 and the identifier, or a refusal number, a offset and ten zeros. With 13 the offset is that of the
+// What reading a text gives: 0, offset 0 and the identifier, or a refusal number, an offset and ten zeros. With 13 the offset is that of the
 // first fault, with 4 it is 0.
 pub struct TextRead {
     pub number: u8,
@@ -117,7 +117,7 @@ fn esi_in(text: &[u8]) -> [u8; 10]
     esi
 }
 
-// A refusal at a offset, with ten zeros for the identifier.
+// A refusal at an offset, with ten zeros for the identifier.
 fn refusal(number: u8, offset: usize) -> TextRead
     ensures { λ r. ⌜ r ≡ refused number offset ⌝ }
 {

@@ -33,7 +33,7 @@ length-offset c n p h l =
       length-decimal 19 p (omega arith),
     )
 
--- after which numbers a offset is printed
+-- after which numbers an offset is printed
 module _ (n : ℕ) where
   pub offset-first : 1 ≤ n → n ≤ 4 → hasOffset n ≡ true
   unfolding hasOffset

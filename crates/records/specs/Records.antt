@@ -4,7 +4,7 @@
 --   Turn               == what one record does: the line that is printed, and the state after it
 --   line c n           == the line of the letter c and the number n
 --   offsetLine c n p    == the line of the letter c, the number n and the offset p
---   hasOffset n         == whether a offset is printed after the number n: after 1 to 4, 6 and 13 (document 02, M-103)
+--   hasOffset n         == whether an offset is printed after the number n: after 1 to 4, 6 and 13 (document 02, M-103)
 --   readLine c n p     == the line of the letter c for what was read: the number n, and the offset p where one is printed
 --   badLine            == the line `x 16`
 --   electedLine a n    == the line of an accepted query

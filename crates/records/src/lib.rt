@@ -61,7 +61,7 @@ fn put_line(out: &mut [u8], at: usize, letter: u8, number: u8) -> usize
     lines::put_octet(out, end, b'\n')
 }
 
-// Puts the line of a letter, a number and a offset.
+// Puts the line of a letter, a number and an offset.
 fn put_offset(out: &mut [u8], at: usize, letter: u8, number: u8, offset: usize) -> usize
     requires { ⌜ at + 40 ≤ length (now out) ⌝ }
     ensures { λ r. ⌜ Written (now (out .entry)) at (offsetLine letter number offset) r (now (out .exit)) ⌝ }
@@ -74,7 +74,7 @@ fn put_offset(out: &mut [u8], at: usize, letter: u8, number: u8, offset: usize) 
     lines::put_octet(out, end, b'\n')
 }
 
-// Whether a offset is printed after a number: after 1 to 4, 6 and 13.
+// Whether an offset is printed after a number: after 1 to 4, 6 and 13.
 fn has_offset(number: u8) -> bool
     ensures { λ r. ⌜ r ≡ hasOffset number ⌝ }
 {

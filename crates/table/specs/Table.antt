@@ -2,7 +2,7 @@
 --   announceNumber i r c p n     == 0, or the number of the first check that refuses an announcement of the route r with the communities c
 --                                   to the table of i, where p tells whether its address is present and n are present
 --   withdrawNumber a p           == the same for a withdrawal of the address a, where p tells whether it is present
---   Change                       == what a call answers, a number and a offset, and the table as it then is
+--   Change                       == what a call answers, a number and an offset, and the table as it then is
 --   changed n p old new          == the answer n with the offset p, and the new table if n is 0 and else the old one
 --   freshTable i, announced t r c, withdrawn t a  == the answers of the three calls
 --   Told c n p b                 == the number n, the offset p and the table in the words b are what the call's answer c says
@@ -69,6 +69,6 @@ withdrawn t a =
     t
     (tableOf (t .esi) (remove entryKey (addressKey a) (t .entries)))
 
--- what a call answers and leaves: a number, a offset, and a table in the words. Where the words are valid, this decides every one of them
+-- what a call answers and leaves: a number, an offset, and a table in the words. Where the words are valid, this decides every one of them
 abbrev pub Told : Change → ℕ → ℕ → List ℕ → Type 0
 Told c n p b = (n ≡ c .number) × (p ≡ c .offset) × (tableIn b ≡ c .table)

@@ -1,4 +1,4 @@
--- `has_offset` meets its contract: its match has the numbers after which a offset is printed. Assumes nothing.
+-- `has_offset` meets its contract: its match has the numbers after which an offset is printed. Assumes nothing.
 use native.Mathlib.Omega.{arith}
 use mathlib.Core.Path.{sym}
 use Rattle.records.proofs.Laws.{offset-first, offset-6, offset-13, no-offset-0, no-offset}
