@@ -14,22 +14,22 @@ use lib.Dec.{T, leb, ltb, leb→le}
 use lib.IntN.{ℤ, pos, negsuc, negℤ, subℕ, _+ℤ_, natAbs}
 use lib.Signed.{ltZ, nonNeg, mag, _≤ℤ_}
 use borrow.Author.Tests.{le-leb, lt-leb, leb-true, leb-false, ltb-true, ltb-false}
-use Rattle.bandwidth.specs.Bandwidth.{stopped, isStep, sum, addStep, after, GivesBack, KeepsOrder}
+use Rattle.bandwidth.specs.Bandwidth.{clamped, isStep, sum, addStep, preferenceAfter, GivesBack, KeepsOrder}
 
 stopped-pos : (b : Bool) (n : ℕ) → leb n 65535 ≡ b → cond {A = ℕ} b n 65535 ≡ 65535 - (65535 - n)
 stopped-pos true n e = let h = leb-true n 65535 e in omega arith
 stopped-pos false n e = let h = leb-false n 65535 e in omega arith
 
-stopped-is : (n : ℕ) → stopped (pos n) ≡ 65535 - (65535 - n)
-unfolding stopped
+stopped-is : (n : ℕ) → clamped (pos n) ≡ 65535 - (65535 - n)
+unfolding clamped
 stopped-is n = stopped-pos (leb n 65535) n refl
 
-sub-is : (b : Bool) (p d : ℕ) → ltb p d ≡ b → stopped (cond b (negsuc (d - suc p)) (pos (p - d))) ≡ 65535 - (65535 - (p - d))
-unfolding stopped
+sub-is : (b : Bool) (p d : ℕ) → ltb p d ≡ b → clamped (cond b (negsuc (d - suc p)) (pos (p - d))) ≡ 65535 - (65535 - (p - d))
+unfolding clamped
 sub-is true p d e = let h = ltb-true p d e in omega arith
 sub-is false p d e = stopped-is (p - d)
 
-stopped-sub : (p d : ℕ) → stopped (subℕ p d) ≡ 65535 - (65535 - (p - d))
+stopped-sub : (p d : ℕ) → clamped (subℕ p d) ≡ 65535 - (65535 - (p - d))
 stopped-sub p d = sub-is (ltb p d) p d refl
 
 -- ---- what is a step
@@ -58,7 +58,7 @@ unfolding isStep
 down-step b e = let h = leb-true b 65534 (and-left (leb b 65534) e) in omega arith
 
 -- ---- the sum
-accepted : (p : ℕ) (s : ℤ) → isStep s ≡ true → addStep p s ≡ sum 0 (stopped (pos p +ℤ s))
+accepted : (p : ℕ) (s : ℤ) → isStep s ≡ true → addStep p s ≡ sum 0 (clamped (pos p +ℤ s))
 unfolding addStep
 accepted p s e = rw e
 
@@ -66,24 +66,24 @@ refused : (p : ℕ) (s : ℤ) → isStep s ≡ false → addStep p s ≡ sum 19 
 unfolding addStep
 refused p s e = rw e
 
-after-is : (p : ℕ) (s : ℤ) → isStep s ≡ true → after p s ≡ stopped (pos p +ℤ s)
+after-is : (p : ℕ) (s : ℤ) → isStep s ≡ true → preferenceAfter p s ≡ clamped (pos p +ℤ s)
 after-is p s e = ap (λ (x : _). x .preference) (accepted p s e)
 
-pub after-up : (p a : ℕ) → a ≤ 65535 → after p (pos a) ≡ 65535 - (65535 - (p + a))
+pub after-up : (p a : ℕ) → a ≤ 65535 → preferenceAfter p (pos a) ≡ 65535 - (65535 - (p + a))
 after-up p a h = after-is p (pos a) (step-up a h) ∙ stopped-is (p + a)
 
-pub after-down : (p d : ℕ) → d ≤ 65535 → after p (negℤ (pos d)) ≡ 65535 - (65535 - (p - d))
+pub after-down : (p d : ℕ) → d ≤ 65535 → preferenceAfter p (negℤ (pos d)) ≡ 65535 - (65535 - (p - d))
 after-down p zero h = after-up p 0 h ∙ omega arith
 after-down p (suc b) h = after-is p (negsuc b) (step-down b h) ∙ stopped-sub p (suc b)
 
 -- ---- the claims
-down-up : (p d : ℕ) → p ≤ 65535 → d ≤ 65535 → (after (after p (negℤ (pos d))) (pos d) ≡ p) ↔ (d ≤ p)
-down-up p d hp hd = rw (after-up (after p (negℤ (pos d))) d hd, after-down p d hd) ((λ e. omega arith), (λ h. omega arith))
+down-up : (p d : ℕ) → p ≤ 65535 → d ≤ 65535 → (preferenceAfter (preferenceAfter p (negℤ (pos d))) (pos d) ≡ p) ↔ (d ≤ p)
+down-up p d hp hd = rw (after-up (preferenceAfter p (negℤ (pos d))) d hd, after-down p d hd) ((λ e. omega arith), (λ h. omega arith))
 
-up-down : (p d : ℕ) → p ≤ 65535 → d ≤ 65535 → (after (after p (pos d)) (negℤ (pos d)) ≡ p) ↔ (p + d ≤ 65535)
-up-down p d hp hd = rw (after-down (after p (pos d)) d hd, after-up p d hd) ((λ e. omega arith), (λ h. omega arith))
+up-down : (p d : ℕ) → p ≤ 65535 → d ≤ 65535 → (preferenceAfter (preferenceAfter p (pos d)) (negℤ (pos d)) ≡ p) ↔ (p + d ≤ 65535)
+up-down p d hp hd = rw (after-down (preferenceAfter p (pos d)) d hd, after-up p d hd) ((λ e. omega arith), (λ h. omega arith))
 
-monotone : (p q : ℕ) (s t : ℤ) → isStep s ≡ true → isStep t ≡ true → p ≤ q → s ≤ℤ t → after p s ≤ after q t
+monotone : (p q : ℕ) (s t : ℤ) → isStep s ≡ true → isStep t ≡ true → p ≤ q → s ≤ℤ t → preferenceAfter p s ≤ preferenceAfter q t
 monotone p q (pos a) (pos b) es et h k =
     let le = leb→le a b (k .le) in
     rw (after-up p a (up-step a es), after-up q b (up-step b et)) (omega arith)
@@ -93,11 +93,11 @@ monotone p q (negsuc a) (negsuc b) es et h k =
     let le = leb→le b a (k .le) in
     rw (after-down p (suc a) (down-step a es), after-down q (suc b) (down-step b et)) (omega arith)
 
-never-lowers : (p : ℕ) (s : ℤ) → p ≤ 65535 → isStep s ≡ true → pos 0 ≤ℤ s → p ≤ after p s
+never-lowers : (p : ℕ) (s : ℤ) → p ≤ 65535 → isStep s ≡ true → pos 0 ≤ℤ s → p ≤ preferenceAfter p s
 never-lowers p (pos a) h e k = rw (after-up p a (up-step a e)) (omega arith)
 never-lowers p (negsuc a) h e k = absurd (k .le)
 
-never-raises : (p : ℕ) (s : ℤ) → isStep s ≡ true → s ≤ℤ pos 0 → after p s ≤ p
+never-raises : (p : ℕ) (s : ℤ) → isStep s ≡ true → s ≤ℤ pos 0 → preferenceAfter p s ≤ p
 never-raises p (pos a) e k = let le = leb→le a 0 (k .le) in rw (after-up p a (up-step a e)) (omega arith)
 never-raises p (negsuc a) e k = rw (after-down p (suc a) (down-step a e)) (omega arith)
 
@@ -134,20 +134,20 @@ pub sum-fits : (p : ℕ) (s : ℤ) → p ≤ 65535 → isStep s ≡ true → mag
 sum-fits p (pos a) h e = let k = up-step a e in omega arith
 sum-fits p (negsuc b) h e = sub-mag (ltb p (suc b)) p b h (down-step b e)
 
-stopped-low : (z : ℤ) → ltZ z (pos 0) ≡ true → stopped z ≡ 0
-unfolding stopped
+stopped-low : (z : ℤ) → ltZ z (pos 0) ≡ true → clamped z ≡ 0
+unfolding clamped
 stopped-low (pos n) e = let h = ltb-true n 0 e in omega arith
 stopped-low (negsuc n) e = refl
 
-stopped-high : (z : ℤ) → ltZ (pos 65535) z ≡ true → stopped z ≡ 65535
+stopped-high : (z : ℤ) → ltZ (pos 65535) z ≡ true → clamped z ≡ 65535
 stopped-high (pos n) e = let h = ltb-true 65535 n e in stopped-is n ∙ omega arith
 stopped-high (negsuc n) e = false-true e
 
-stopped-between : (z : ℤ) → ltZ z (pos 0) ≡ false → ltZ (pos 65535) z ≡ false → stopped z ≡ natAbs z
+stopped-between : (z : ℤ) → ltZ z (pos 0) ≡ false → ltZ (pos 65535) z ≡ false → clamped z ≡ natAbs z
 stopped-between (pos n) l h = let k = ltb-false 65535 n h in stopped-is n ∙ omega arith
 stopped-between (negsuc n) l h = false-true (sym l)
 
-answered : (p : ℕ) (s : ℤ) (n : ℕ) → isStep s ≡ true → stopped (pos p +ℤ s) ≡ n → sum 0 n ≡ addStep p s
+answered : (p : ℕ) (s : ℤ) (n : ℕ) → isStep s ≡ true → clamped (pos p +ℤ s) ≡ n → sum 0 n ≡ addStep p s
 answered p s n e k = sym (accepted p s e ∙ ap (λ (x : ℕ). sum 0 x) k)
 
 pub stops-low : (p : ℕ) (s : ℤ) → isStep s ≡ true → ltZ (pos p +ℤ s) (pos 0) ≡ true → sum 0 0 ≡ addStep p s

@@ -8,7 +8,7 @@ use mathlib.Core.List.{List, [], _∷_, List·Memᴰ, List·Memᴰ·head, List·
 use lib.Dec.{eqb}
 use borrow.Author.Tests.{ne-eqb}
 use Rattle.lists.proofs.Bools.{by-test, true-false, not-true-false, not-false-true}
-use Rattle.choice.specs.Choice.{best, bestOf, kept}
+use Rattle.choice.specs.Choice.{best, bestOf, filtered}
 
 -- ---- members
 
@@ -19,24 +19,24 @@ module _ {A : Type 0} where
 
   -- what a test keeps
   module _ (keep : A → Bool) where
-    pub kept-true : (x : A) (l : List A) → keep x ≡ true → kept keep (x ∷ l) ≡ x ∷ kept keep l
-    unfolding kept
+    pub kept-true : (x : A) (l : List A) → keep x ≡ true → filtered keep (x ∷ l) ≡ x ∷ filtered keep l
+    unfolding filtered
     kept-true x l e = rw e
 
-    pub kept-false : (x : A) (l : List A) → keep x ≡ false → kept keep (x ∷ l) ≡ kept keep l
-    unfolding kept
+    pub kept-false : (x : A) (l : List A) → keep x ≡ false → filtered keep (x ∷ l) ≡ filtered keep l
+    unfolding filtered
     kept-false x l e = rw e
 
-    pub mem-kept : (l : List A) {a : A} → List·Memᴰ a (kept keep l) → List·Memᴰ a l
-    unfolding kept
+    pub mem-kept : (l : List A) {a : A} → List·Memᴰ a (filtered keep l) → List·Memᴰ a l
+    unfolding filtered
     mem-kept [] h = h
     mem-kept (x ∷ l) h =
         by-test (keep x)
         (λ e. mem-under (mem-kept l) (rw (kept-true x l e) at h))
         (λ e. List·Memᴰ·tail (mem-kept l (rw (kept-false x l e) at h)))
 
-    pub kept-mem : {a : A} {l : List A} → keep a ≡ true → List·Memᴰ a l → List·Memᴰ a (kept keep l)
-    unfolding kept
+    pub kept-mem : {a : A} {l : List A} → keep a ≡ true → List·Memᴰ a l → List·Memᴰ a (filtered keep l)
+    unfolding filtered
     kept-mem k (List·Memᴰ·head e) = rw (ap keep (sym e) ∙ k) (List·Memᴰ·head e)
     kept-mem k (List·Memᴰ·tail {x = x} m) = Memᴰ·append-right (cond (keep x) (x ∷ []) []) (kept-mem k m)
 
@@ -136,9 +136,9 @@ module _ {A : Type 0} (key : A → ℕ) (better : A → A → Bool) (o : Order k
     pub best-fewer : (m : List A) → ((b : A) → List·Memᴰ b m → List·Memᴰ b (x ∷ l)) → List·Memᴰ (best better x l) m → bestOf better d m ≡ best better x l
     best-fewer m f h = bestOf-only d (best better x l) m (unique-sub key f u) h (λ b k. best-top x l u b (f b k))
 
-    pub best-kept : (keep : A → Bool) → keep (best better x l) ≡ true → bestOf better d (kept keep (x ∷ l)) ≡ best better x l
-    best-kept keep k = best-fewer (kept keep (x ∷ l)) (λ b. mem-kept keep (x ∷ l)) (kept-mem keep k (best-in better x l))
+    pub best-kept : (keep : A → Bool) → keep (best better x l) ≡ true → bestOf better d (filtered keep (x ∷ l)) ≡ best better x l
+    best-kept keep k = best-fewer (filtered keep (x ∷ l)) (λ b. mem-kept keep (x ∷ l)) (kept-mem keep k (best-in better x l))
 
     -- in particular those of one key that is not the best's
-    pub best-without : (k : ℕ) → (key (best better x l) ≡ k → ⊥) → bestOf better d (kept (λ (a : A). not (eqb (key a) k)) (x ∷ l)) ≡ best better x l
+    pub best-without : (k : ℕ) → (key (best better x l) ≡ k → ⊥) → bestOf better d (filtered (λ (a : A). not (eqb (key a) k)) (x ∷ l)) ≡ best better x l
     best-without k n = best-kept (λ (a : A). not (eqb (key a) k)) (ap not (ne-eqb (key (best better x l)) k n))

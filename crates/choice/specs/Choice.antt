@@ -2,7 +2,7 @@
 -- to 3, each by criteria in their order). Over any element.
 --   best better x l       == the best of x and the elements of l, walked from the first on
 --   bestOf better d l     == the best of the elements of l; d where there are none
---   kept keep l           == the elements of l that the test keep holds of, in their order
+--   filtered keep l       == the elements of l that the test keep holds of, in their order
 --   decided p q r         == one criterion between a and b: p, a wins by it; q, b wins by it; r, what the later criteria say where neither does
 --   higher f a b          == a wins by the greater number f
 --   lower f a b           == a wins by the lower number f
@@ -22,9 +22,9 @@ unfoldable pub bestOf : {A : Type 0} → (A → A → Bool) → A → List A →
 bestOf better d [] = d
 bestOf better d (x ∷ l) = best better x l
 
-unfoldable pub kept : {A : Type 0} → (A → Bool) → List A → List A
-kept keep [] = []
-kept keep (x ∷ l) = cond (keep x) (x ∷ []) [] ++ kept keep l
+unfoldable pub filtered : {A : Type 0} → (A → Bool) → List A → List A
+filtered keep [] = []
+filtered keep (x ∷ l) = cond (keep x) (x ∷ []) [] ++ filtered keep l
 
 abbrev pub decided : Bool → Bool → Bool → Bool
 decided p q r = cond p true (cond q false r)

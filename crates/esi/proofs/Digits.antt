@@ -8,7 +8,7 @@ use mathlib.Core.Bool.{Bool, true, false, cond, _&&_, and-eq-true-iff, and-false
 use mathlib.Core.Logic.{⊎-elim}
 use lib.Dec.{leb, ltb, eqb}
 use borrow.Author.Tests.{le-leb, lt-leb, lt-ltb, le-ltb, eqb-true}
-use Rattle.esi.specs.Text.{between, digitValue, digitOf, lower}
+use Rattle.esi.specs.Text.{between, digitValue, digitOf, lowerCharacter}
 
 -- ---- the number of a digit
 
@@ -65,8 +65,8 @@ pub value-digit : (n : ℕ) → n < 16 → digitValue (digitOf n) ≡ n
 unfolding digitValue digitOf allBelow
 value-digit n h = eqb-true (digitValue (digitOf n)) n (all-below (λ k. eqb (digitValue (digitOf k)) k) 16 refl n h)
 
-pub digit-value : (c : ℕ) → c < 256 → digitValue c < 16 → digitOf (digitValue c) ≡ lower c
-unfolding digitValue digitOf lower allBelow
+pub digit-value : (c : ℕ) → c < 256 → digitValue c < 16 → digitOf (digitValue c) ≡ lowerCharacter c
+unfolding digitValue digitOf lowerCharacter allBelow
 digit-value c h v =
-    let t = all-below (λ k. cond (ltb (digitValue k) 16) (eqb (digitOf (digitValue k)) (lower k)) true) 256 refl c h in
-    eqb-true (digitOf (digitValue c)) (lower c) (rw (lt-ltb (digitValue c) 16 v) at t)
+    let t = all-below (λ k. cond (ltb (digitValue k) 16) (eqb (digitOf (digitValue k)) (lowerCharacter k)) true) 256 refl c h in
+    eqb-true (digitOf (digitValue c)) (lowerCharacter c) (rw (lt-ltb (digitValue c) 16 v) at t)

@@ -16,7 +16,7 @@ use Rattle.lists.specs.Lists.{tabulate}
 use Rattle.lists.proofs.Bools.{cond-by}
 use Rattle.lists.proofs.Lists.{length-tabulate, getD-tabulate}
 use Rattle.octets.proofs.Laws.{Octets, octets-nil, octets-cons}
-use Rattle.esi.specs.Text.{digitValue, digitOf, rightAt, wrongFrom, firstWrong, rightIn, FirstFault, octetAt, esiIn, textAt, textOf, lower, lowerCase}
+use Rattle.esi.specs.Text.{digitValue, digitOf, rightAt, wrongFrom, firstWrong, rightIn, FirstFault, octetAt, esiIn, textAt, textOf, lowerCharacter, lowerCase}
 use Rattle.esi.proofs.Digits.{value-digit, digit-value}
 
 -- ---- a list by its places
@@ -166,8 +166,8 @@ each-right t r = right-after t 0 (λ k h. rw zero-add (r k h)) ∙ zero-add (len
 abbrev pub Right : List ℕ → Type 0
 Right t = (i : ℕ) → i < 29 → rightAt i (getD t i 0) ≡ true
 
-lower-colon : 58 ≡ lower 58
-unfolding lower
+lower-colon : 58 ≡ lowerCharacter 58
+unfolding lowerCharacter
 lower-colon = refl
 
 pub getD-esi : (t : List ℕ) (k : ℕ) → k < 10 → getD (esiIn t) k 0 ≡ octetAt t k
@@ -201,26 +201,26 @@ module _ (t : List ℕ) (r : Right t) where
     third : i / 3 < 10
     third = omega arith
 
-    digit-at : i % 3 < 2 → digitOf (digitValue (getD t i 0)) ≡ lower (getD t i 0)
+    digit-at : i % 3 < 2 → digitOf (digitValue (getD t i 0)) ≡ lowerCharacter (getD t i 0)
     digit-at k = digit-value (getD t i 0) (o i) (value-at i h k)
 
-    high-at : i % 3 ≡ 0 → textAt (esiIn t) i ≡ lower (getD t i 0)
+    high-at : i % 3 ≡ 0 → textAt (esiIn t) i ≡ lowerCharacter (getD t i 0)
     high-at e =
         let offset : 3 * (i / 3) ≡ i = omega (arith, div-add-mod i 3) in
         rw (text-high (esiIn t) i e, getD-esi t (i / 3) third, octet-high (i / 3) third, offset) (digit-at (omega arith))
 
-    low-at : i % 3 ≡ 1 → textAt (esiIn t) i ≡ lower (getD t i 0)
+    low-at : i % 3 ≡ 1 → textAt (esiIn t) i ≡ lowerCharacter (getD t i 0)
     low-at e =
         let offset : 3 * (i / 3) + 1 ≡ i = omega (arith, div-add-mod i 3) in
         rw (text-low (esiIn t) i e, getD-esi t (i / 3) third, octet-low (i / 3) third, offset) (digit-at (omega arith))
 
-    colon-at : i % 3 ≡ 2 → textAt (esiIn t) i ≡ lower (getD t i 0)
+    colon-at : i % 3 ≡ 2 → textAt (esiIn t) i ≡ lowerCharacter (getD t i 0)
     colon-at e =
         let c : getD t i 0 ≡ 58 = eqb-true (getD t i 0) 58 (sym (right-colon i (getD t i 0) e) ∙ r i h) in
         rw (text-colon (esiIn t) i e, c) lower-colon
 
-    text-at : textAt (esiIn t) i ≡ lower (getD t i 0)
-    text-at = by-kind (textAt (esiIn t) i ≡ lower (getD t i 0)) i high-at low-at colon-at
+    text-at : textAt (esiIn t) i ≡ lowerCharacter (getD t i 0)
+    text-at = by-kind (textAt (esiIn t) i ≡ lowerCharacter (getD t i 0)) i high-at low-at colon-at
 
 pub length-esi : (t : List ℕ) → length (esiIn t) ≡ 10
 unfolding esiIn
@@ -240,10 +240,10 @@ esi-octets t r = octets-tabulate 10 (octetAt t) (octet-lt t r)
 
 -- the text of the identifier that a right text says is that text in lower case
 pub text-esi : (t : List ℕ) → length t ≡ 29 → Octets t → Right t → textOf (esiIn t) ≡ lowerCase t
-unfolding lowerCase lower
+unfolding lowerCase lowerCharacter
 text-esi t n o r =
-    ext-getD 0 (textOf (esiIn t)) (lowerCase t) (length-text (esiIn t) ∙ sym (length-map t lower ∙ n))
-    (λ i h. let k : i < 29 = rw (length-text (esiIn t)) at h in getD-text (esiIn t) i k ∙ text-at t r o i k ∙ sym (List·getD-map lower t i 0))
+    ext-getD 0 (textOf (esiIn t)) (lowerCase t) (length-text (esiIn t) ∙ sym (length-map t lowerCharacter ∙ n))
+    (λ i h. let k : i < 29 = rw (length-text (esiIn t)) at h in getD-text (esiIn t) i k ∙ text-at t r o i k ∙ sym (List·getD-map lowerCharacter t i 0))
 
 -- ---- the text of an identifier is right, and says it
 

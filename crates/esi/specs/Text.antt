@@ -16,7 +16,7 @@
 --   digitOf n           == the digit of the number n, in lower case
 --   textAt s i          == the character at offset i of the text of the identifier s
 --   textOf s            == the text of the identifier s
---   lower c             == c in lower case if it is a digit A-F, else c
+--   lowerCharacter c    == c in lower case if it is a digit A-F, else c
 --   lowerCase t         == t with each such digit in lower case
 --   writeTextNumber n s == the number answered for writing the identifier s into a buffer of n characters
 --   textWritten d s     == the buffer d after that
@@ -83,11 +83,11 @@ textAt s i = cond (eqb (i % 3) 2) 58 (digitOf (cond (eqb (i % 3) 0) (getD s (i /
 unfoldable pub textOf : List ℕ → List ℕ
 textOf s = tabulate 29 (textAt s)
 
-unfoldable pub lower : ℕ → ℕ
-lower c = cond (between 65 70 c) (c + 32) c
+unfoldable pub lowerCharacter : ℕ → ℕ
+lowerCharacter c = cond (between 65 70 c) (c + 32) c
 
 unfoldable pub lowerCase : List ℕ → List ℕ
-lowerCase t = map lower t
+lowerCase t = map lowerCharacter t
 
 unfoldable pub writeTextNumber : ℕ → List ℕ → ℕ
 writeTextNumber n s =

@@ -7,7 +7,7 @@ ghost use Rattle.layout.specs.Words.{tableIn, Valid};
 ghost use Rattle.hrw.specs.Weight.{digestOf};
 ghost use Rattle.election.specs.Election.{electOf};
 ghost use Rattle.returning.specs.Returning.{returningOf};
-ghost use Rattle.exports.specs.Exports.{answerOf, sentOf};
+ghost use Rattle.exports.specs.Exports.{exportedAnswer, sentOf};
 
 // The answers of the calls, laid out as C lays them out.
 #[repr(C)]
@@ -72,7 +72,7 @@ pub extern "C" fn segment_withdraw(t: &mut [u32], address: u32) -> u8
 #[no_mangle]
 pub extern "C" fn segment_elect(t: &[u32], tag: u32, ready: &[u32]) -> Answer
     requires { ⌜ Valid (now t) ⌝ }
-    ensures { λ r. ⌜ r ≡ answerOf (electOf (tableIn (now (t .entry)) .esi) (tableIn (now (t .entry)) .entries) tag (now (ready .entry))) ⌝ }
+    ensures { λ r. ⌜ r ≡ exportedAnswer (electOf (tableIn (now (t .entry)) .esi) (tableIn (now (t .entry)) .entries) tag (now (ready .entry))) ⌝ }
 {
     let a = segment::elect(t, tag, ready);
     Answer {

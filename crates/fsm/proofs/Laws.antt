@@ -24,7 +24,7 @@ use Rattle.fsm.specs.declared.Event.{Event}
 use Rattle.fsm.specs.declared.Event.the-variants.{EsUp, EsDown, VlanChange, RcvdEs, LostEs, DfTimer, Calculated}
 use Rattle.fsm.specs.declared.Numbered.the-variants.{Is, Nothing}
 use Rattle.fsm.specs.declared.Machine.{Machine}
-use Rattle.fsm.specs.Machine.{stateNumber, eventNumber, eventOf, inState, nextState, starts, waitedOf, due, inInit, madeOf, driveOf, tickOf, answerOf, drivenOf}
+use Rattle.fsm.specs.Machine.{stateNumber, eventNumber, eventOf, inState, nextState, starts, waitedOf, due, inInit, madeOf, driveOf, tickOf, numberedAnswer, drivenOf}
 
 -- ---- the table
 abbrev pub states : List State
@@ -105,11 +105,11 @@ unfolding tickOf
 unticked m now e = rw e
 
 pub numbered : (m : Machine) (n now : ℕ) (e : Event) (r : Machine) → eventOf n ≡ Is e → r ≡ driveOf m e now → record { number = 0; machine = r } ≡ drivenOf m n now
-unfolding drivenOf answerOf
+unfolding drivenOf numberedAnswer
 numbered m n now e r i d = rw (i, d)
 
 pub refused : (m : Machine) (n now : ℕ) → eventOf n ≡ Nothing → record { number = 23; machine = m } ≡ drivenOf m n now
-unfolding drivenOf answerOf
+unfolding drivenOf numberedAnswer
 refused m n now i = rw i
 
 pub unnumbered : (n : ℕ) → (n ≡ 0 → ⊥) → (n ≡ 1 → ⊥) → (n ≡ 2 → ⊥) → (n ≡ 3 → ⊥) → (n ≡ 4 → ⊥) → (n ≡ 5 → ⊥) → (n ≡ 6 → ⊥) → Nothing ≡ eventOf n

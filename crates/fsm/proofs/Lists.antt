@@ -24,7 +24,7 @@ use Rattle.fsm.specs.declared.State.the-variants.{Init, DfWait, DfCalc, 
 use Rattle.fsm.specs.declared.Event.the-variants.{EsUp, EsDown, VlanChange, RcvdEs, LostEs, DfTimer, Calculated}
 use Rattle.fsm.specs.declared.Machine.{Machine}
 use Rattle.fsm.specs.Machine.{stateNumber, nextState, starts, waitedOf, due, driveOf, tickOf}
-use Rattle.fsm.specs.Runs.{Item, event, reading, step, run, isEvent, fires, each, early, upheld, unfinished, settled, Claims}
+use Rattle.fsm.specs.Runs.{Item, event, reading, afterItem, run, isEvent, fires, each, early, upheld, unfinished, settled, Claims}
 
 abbrev mk : State → ℕ → ℕ → Machine
 mk s w t = record { state = s; wait = w; since = t }
@@ -45,8 +45,8 @@ and-split false b e = no e
 
 -- ---- one item
 module _ (w t : ℕ) where
-  wait-step : (x : Item) → early (mk DfWait w t) x ≡ true → step (mk DfWait w t) x ≡ mk DfWait w t
-  unfolding early upheld fires isEvent step driveOf nextState starts tickOf due
+  wait-step : (x : Item) → early (mk DfWait w t) x ≡ true → afterItem (mk DfWait w t) x ≡ mk DfWait w t
+  unfolding early upheld fires isEvent afterItem driveOf nextState starts tickOf due
   wait-step (event EsUp now) e = refl
   wait-step (event EsDown now) e = no e
   wait-step (event VlanChange now) e = refl
@@ -56,8 +56,8 @@ module _ (w t : ℕ) where
   wait-step (event Calculated now) e = refl
   wait-step (reading now) e = rw (not-true (leb w (waitedOf now t)) e)
 
-  fire-step : (x : Item) → fires (mk DfWait w t) x ≡ true → step (mk DfWait w t) x ≡ mk DfCalc w t
-  unfolding fires isEvent step driveOf nextState starts tickOf due
+  fire-step : (x : Item) → fires (mk DfWait w t) x ≡ true → afterItem (mk DfWait w t) x ≡ mk DfCalc w t
+  unfolding fires isEvent afterItem driveOf nextState starts tickOf due
   fire-step (event EsUp now) e = no e
   fire-step (event EsDown now) e = no e
   fire-step (event VlanChange now) e = no e
@@ -67,8 +67,8 @@ module _ (w t : ℕ) where
   fire-step (event Calculated now) e = no e
   fire-step (reading now) e = rw e
 
-  calc-step : (x : Item) → unfinished x ≡ true → step (mk DfCalc w t) x ≡ mk DfCalc w t
-  unfolding unfinished upheld isEvent step driveOf nextState starts tickOf due
+  calc-step : (x : Item) → unfinished x ≡ true → afterItem (mk DfCalc w t) x ≡ mk DfCalc w t
+  unfolding unfinished upheld isEvent afterItem driveOf nextState starts tickOf due
   calc-step (event EsUp now) e = refl
   calc-step (event EsDown now) e = no e
   calc-step (event VlanChange now) e = refl
@@ -78,8 +78,8 @@ module _ (w t : ℕ) where
   calc-step (event Calculated now) e = no e
   calc-step (reading now) e = refl
 
-  done-step : (x : Item) → settled x ≡ true → step (mk DfDone w t) x ≡ mk DfDone w t
-  unfolding settled upheld isEvent step driveOf nextState starts tickOf due
+  done-step : (x : Item) → settled x ≡ true → afterItem (mk DfDone w t) x ≡ mk DfDone w t
+  unfolding settled upheld isEvent afterItem driveOf nextState starts tickOf due
   done-step (event EsUp now) e = refl
   done-step (event EsDown now) e = no e
   done-step (event VlanChange now) e = no e
@@ -90,8 +90,8 @@ module _ (w t : ℕ) where
   done-step (reading now) e = refl
 
   -- with no ES_DOWN, DF_CALC and DF_DONE lead to these two only
-  calc-work : (x : Item) → upheld x ≡ true → (step (mk DfCalc w t) x ≡ mk DfCalc w t) ⊎ (step (mk DfCalc w t) x ≡ mk DfDone w t)
-  unfolding upheld isEvent step driveOf nextState starts tickOf due
+  calc-work : (x : Item) → upheld x ≡ true → (afterItem (mk DfCalc w t) x ≡ mk DfCalc w t) ⊎ (afterItem (mk DfCalc w t) x ≡ mk DfDone w t)
+  unfolding upheld isEvent afterItem driveOf nextState starts tickOf due
   calc-work (event EsUp now) e = inl refl
   calc-work (event EsDown now) e = no e
   calc-work (event VlanChange now) e = inl refl
@@ -101,8 +101,8 @@ module _ (w t : ℕ) where
   calc-work (event Calculated now) e = inr refl
   calc-work (reading now) e = inl refl
 
-  done-work : (x : Item) → upheld x ≡ true → (step (mk DfDone w t) x ≡ mk DfCalc w t) ⊎ (step (mk DfDone w t) x ≡ mk DfDone w t)
-  unfolding upheld isEvent step driveOf nextState starts tickOf due
+  done-work : (x : Item) → upheld x ≡ true → (afterItem (mk DfDone w t) x ≡ mk DfCalc w t) ⊎ (afterItem (mk DfDone w t) x ≡ mk DfDone w t)
+  unfolding upheld isEvent afterItem driveOf nextState starts tickOf due
   done-work (event EsUp now) e = inr refl
   done-work (event EsDown now) e = no e
   done-work (event VlanChange now) e = inl refl
@@ -112,27 +112,27 @@ module _ (w t : ℕ) where
   done-work (event Calculated now) e = inr refl
   done-work (reading now) e = inr refl
 
-  calc-done : (now : ℕ) → step (mk DfCalc w t) (event Calculated now) ≡ mk DfDone w t
-  unfolding step driveOf nextState starts
+  calc-done : (now : ℕ) → afterItem (mk DfCalc w t) (event Calculated now) ≡ mk DfDone w t
+  unfolding afterItem driveOf nextState starts
   calc-done now = refl
 
-  done-done : (now : ℕ) → step (mk DfDone w t) (event Calculated now) ≡ mk DfDone w t
-  unfolding step driveOf nextState starts
+  done-done : (now : ℕ) → afterItem (mk DfDone w t) (event Calculated now) ≡ mk DfDone w t
+  unfolding afterItem driveOf nextState starts
   done-done now = refl
 
-  down : (s : State) (now : ℕ) → step (mk s w t) (event EsDown now) ≡ mk Init w t
-  unfolding step driveOf nextState starts
+  down : (s : State) (now : ℕ) → afterItem (mk s w t) (event EsDown now) ≡ mk Init w t
+  unfolding afterItem driveOf nextState starts
   down Init now = refl
   down DfWait now = refl
   down DfCalc now = refl
   down DfDone now = refl
 
-  up : (now : ℕ) → step (mk Init w t) (event EsUp now) ≡ mk DfWait w now
-  unfolding step driveOf nextState starts
+  up : (now : ℕ) → afterItem (mk Init w t) (event EsUp now) ≡ mk DfWait w now
+  unfolding afterItem driveOf nextState starts
   up now = refl
 
-  idle : (x : Item) → isEvent EsUp x ≡ false → step (mk Init w t) x ≡ mk Init w t
-  unfolding isEvent step driveOf nextState starts tickOf due
+  idle : (x : Item) → isEvent EsUp x ≡ false → afterItem (mk Init w t) x ≡ mk Init w t
+  unfolding isEvent afterItem driveOf nextState starts tickOf due
   idle (event EsUp now) e = no (sym e)
   idle (event EsDown now) e = refl
   idle (event VlanChange now) e = refl
@@ -154,8 +154,8 @@ module _ (w t : ℕ) where
   abbrev Reached : State → Item → Type 0
   Reached s x = (s ≡ DfCalc) × (isEvent Calculated x ≡ true)
 
-  reached : (s : State) (x : Item) → (s ≡ DfDone → ⊥) → step (mk s w t) x .state ≡ DfDone → Reached s x
-  unfolding isEvent step driveOf nextState starts tickOf due
+  reached : (s : State) (x : Item) → (s ≡ DfDone → ⊥) → afterItem (mk s w t) x .state ≡ DfDone → Reached s x
+  unfolding isEvent afterItem driveOf nextState starts tickOf due
   reached DfDone x n e = absurd (n refl)
   reached DfCalc (event EsUp now) n e = different DfCalc DfDone refl e
   reached DfCalc (event EsDown now) n e = different Init DfDone refl e
@@ -182,8 +182,8 @@ module _ (w t : ℕ) where
   reached Init (event Calculated now) n e = different Init DfDone refl e
   reached Init (reading now) n e = different Init DfDone refl e
 
-  start : (s : State) (x : Item) → (s ≡ Init → ⊥) → step (mk s w t) x .since ≡ t
-  unfolding step driveOf starts tickOf due nextState
+  start : (s : State) (x : Item) → (s ≡ Init → ⊥) → afterItem (mk s w t) x .since ≡ t
+  unfolding afterItem driveOf starts tickOf due nextState
   start Init x n = absurd (n refl)
   start DfWait (event e now) n = refl
   start DfWait (reading now) n = tick-since (leb w (waitedOf now t))
@@ -196,8 +196,8 @@ cond-wait : (b : Bool) (m k : Machine) → m .wait ≡ k .wait → cond {A = Mac
 cond-wait true m k e = e
 cond-wait false m k e = refl
 
-step-wait : (m : Machine) (x : Item) → step m x .wait ≡ m .wait
-unfolding step driveOf tickOf
+step-wait : (m : Machine) (x : Item) → afterItem m x .wait ≡ m .wait
+unfolding afterItem driveOf tickOf
 step-wait m (event e now) = refl
 step-wait m (reading now) = cond-wait (due m now) (driveOf m DfTimer now) m refl
 
@@ -205,21 +205,21 @@ step-wait m (reading now) = cond-wait (due m now) (driveOf m DfTimer now) m refl
 run-append : (m : Machine) (l k : List Item) → run m (l ++ k) ≡ run (run m l) k
 unfolding run
 run-append m [] k = refl
-run-append m (x ∷ l) k = run-append (step m x) l k
+run-append m (x ∷ l) k = run-append (afterItem m x) l k
 
 run-wait : (m : Machine) (l : List Item) → run m l .wait ≡ m .wait
 unfolding run
 run-wait m [] = refl
-run-wait m (x ∷ l) = run-wait (step m x) l ∙ step-wait m x
+run-wait m (x ∷ l) = run-wait (afterItem m x) l ∙ step-wait m x
 
-stays : (m : Machine) (f : Item → Bool) → ((x : Item) → f x ≡ true → step m x ≡ m) → (l : List Item) → each f l ≡ true → run m l ≡ m
+stays : (m : Machine) (f : Item → Bool) → ((x : Item) → f x ≡ true → afterItem m x ≡ m) → (l : List Item) → each f l ≡ true → run m l ≡ m
 unfolding run each
 stays m f h [] e = refl
 stays m f h (x ∷ l) e =
     let p = and-split (f x) (each f l) e in
     ap (λ (n : Machine). run n l) (h x (p .0)) ∙ stays m f h l (p .1)
 
-run-one : (m n : Machine) (x : Item) (l : List Item) → step m x ≡ n → run m (x ∷ l) ≡ run n l
+run-one : (m n : Machine) (x : Item) (l : List Item) → afterItem m x ≡ n → run m (x ∷ l) ≡ run n l
 unfolding run
 run-one m n x l e = ap (λ (k : Machine). run k l) e
 
@@ -242,7 +242,7 @@ module _ (w t now : ℕ) (j : List Item) where
   ends (x ∷ k) e =
       let p = and-split (upheld x) (each upheld k) e in
       let h = ends k (p .1) in
-      (ends-on (step (mk DfCalc w t) x) k (calc-work w t x (p .0)) h, ends-on (step (mk DfDone w t) x) k (done-work w t x (p .0)) h)
+      (ends-on (afterItem (mk DfCalc w t) x) k (calc-work w t x (p .0)) h, ends-on (afterItem (mk DfDone w t) x) k (done-work w t x (p .0)) h)
 
 -- ---- the claims of a machine in DF_WAIT
 module _ (w t : ℕ) (l : List Item) (quiet : each (early (mk DfWait w t)) l ≡ true) where
@@ -279,8 +279,8 @@ of-machine made m kept =
           → run (mk s w t) (l ++ x ∷ (k ++ event Calculated now ∷ j)) ≡ mk DfDone w t) e (λ q f u z. finishes w t l q x k now j f u z);
       down = down w t (m .state);
       reached = reached w t (m .state);
-      up = λ now e. in-state (λ s. step (mk s w t) (event EsUp now) ≡ mk DfWait w now) e (up w t now);
-      idle = λ x e. in-state (λ s. isEvent EsUp x ≡ false → step (mk s w t) x ≡ mk s w t) e (idle w t x);
+      up = λ now e. in-state (λ s. afterItem (mk s w t) (event EsUp now) ≡ mk DfWait w now) e (up w t now);
+      idle = λ x e. in-state (λ s. isEvent EsUp x ≡ false → afterItem (mk s w t) x ≡ mk s w t) e (idle w t x);
       start = start w t (m .state);
     }
 

@@ -12,7 +12,7 @@
 --   madeOf w            == the answer to making a machine with the wait w
 --   driveOf m e now     == the machine m after the event e, with the clock reading handed in
 --   tickOf m now        == the machine m after a clock reading alone
---   answerOf m now e    == the answer for the event e, or 23 for nothing
+--   numberedAnswer m now e == the answer for the event e, or 23 for nothing
 --   drivenOf m n now    == the answer for an event that is handed in as the number n
 use Prim.Native.Nat.{ℕ, _+_, _-_, _%_, _^_}
 use mathlib.Core.Bool.{Bool, cond, _&&_}
@@ -92,9 +92,9 @@ driveOf m e now = record { state = nextState (m .state) e; wait = m .wait; since
 unfoldable pub tickOf : Machine → ℕ → Machine
 tickOf m now = cond (due m now) (driveOf m DfTimer now) m
 
-unfoldable pub answerOf : Machine → ℕ → Numbered → Answer
-answerOf m now (Is e) = record { number = 0; machine = driveOf m e now }
-answerOf m now Nothing = record { number = eventUnknown; machine = m }
+unfoldable pub numberedAnswer : Machine → ℕ → Numbered → Answer
+numberedAnswer m now (Is e) = record { number = 0; machine = driveOf m e now }
+numberedAnswer m now Nothing = record { number = eventUnknown; machine = m }
 
 unfoldable pub drivenOf : Machine → ℕ → ℕ → Answer
-drivenOf m n now = answerOf m now (eventOf n)
+drivenOf m n now = numberedAnswer m now (eventOf n)

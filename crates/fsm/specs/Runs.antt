@@ -1,7 +1,7 @@
 -- What a list of events and clock readings makes of a machine (document 02, M-100): one claim of a machine that was made and every list, of any length.
 --   event e now         == an event, with the clock reading that is handed in with it
 --   reading now         == a clock reading alone
---   step m x            == the machine m after the item x
+--   afterItem m x       == the machine m after the item x
 --   run m l             == the machine m after the items of l, one after another
 --   at s m              == the machine m in the state s, its wait and its start as they are
 --   isEvent e x         == whether the item x is the event e, with whatever reading
@@ -28,13 +28,13 @@ pub data Item : Type 0 where
   event : Event → ℕ → Item
   reading : ℕ → Item
 
-unfoldable pub step : Machine → Item → Machine
-step m (event e now) = driveOf m e now
-step m (reading now) = tickOf m now
+unfoldable pub afterItem : Machine → Item → Machine
+afterItem m (event e now) = driveOf m e now
+afterItem m (reading now) = tickOf m now
 
 unfoldable pub run : Machine → List Item → Machine
 run m [] = m
-run m (x ∷ l) = run (step m x) l
+run m (x ∷ l) = run (afterItem m x) l
 
 abbrev pub at : State → Machine → Machine
 at s m = record { state = s; wait = m .wait; since = m .since }
@@ -78,11 +78,11 @@ pub record Claims (made m : Machine) : Type 0 where
   pub done : (l : List Item) (x : Item) (k : List Item) (now : ℕ) (j : List Item) → m .state ≡ DfWait → each (early m) l ≡ true → fires m x ≡ true
       → each upheld k ≡ true → each settled j ≡ true → run m (l ++ x ∷ (k ++ event Calculated now ∷ j)) ≡ at DfDone m
   -- ES_DOWN leads to INIT from every state
-  pub down : (now : ℕ) → step m (event EsDown now) ≡ at Init m
+  pub down : (now : ℕ) → afterItem m (event EsDown now) ≡ at Init m
   -- DF_DONE is reached from DF_CALC only, by CALCULATED
-  pub reached : (x : Item) → (m .state ≡ DfDone → ⊥) → step m x .state ≡ DfDone → (m .state ≡ DfCalc) × (isEvent Calculated x ≡ true)
+  pub reached : (x : Item) → (m .state ≡ DfDone → ⊥) → afterItem m x .state ≡ DfDone → (m .state ≡ DfCalc) × (isEvent Calculated x ≡ true)
   -- INIT is left by ES_UP only, to DF_WAIT, and the wait runs from the reading handed in with it
-  pub up : (now : ℕ) → m .state ≡ Init → step m (event EsUp now) ≡ record { state = DfWait; wait = m .wait; since = now }
-  pub idle : (x : Item) → m .state ≡ Init → isEvent EsUp x ≡ false → step m x ≡ m
+  pub up : (now : ℕ) → m .state ≡ Init → afterItem m (event EsUp now) ≡ record { state = DfWait; wait = m .wait; since = now }
+  pub idle : (x : Item) → m .state ≡ Init → isEvent EsUp x ≡ false → afterItem m x ≡ m
   -- outside INIT nothing starts the wait anew
-  pub start : (x : Item) → (m .state ≡ Init → ⊥) → step m x .since ≡ m .since
+  pub start : (x : Item) → (m .state ≡ Init → ⊥) → afterItem m x .since ≡ m .since

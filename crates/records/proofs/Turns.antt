@@ -17,7 +17,7 @@ use Rattle.election.specs.Election.{electOf}
 use Rattle.records.specs.declared.Phase.{Phase}
 use Rattle.records.specs.declared.Phase.the-variants.{Start, Running, Ended}
 use Rattle.records.specs.declared.Step.{Step}
-use Rattle.records.specs.Records.{Turn, line, readLine, stateIn, running, ended, refused, queryLine, textTurn, announceTurn, withdrawTurn, queryTurn, laterTurn, wordsIn, turnIn}
+use Rattle.records.specs.Records.{Turn, line, readLine, stateIn, running, ended, badTurn, queryLine, textTurn, announceTurn, withdrawTurn, queryTurn, laterTurn, wordsIn, turnIn}
 use Rattle.records.specs.Steps.{Written, Stepped}
 use Rattle.records.proofs.Laws.{written-as, written-none}
 
@@ -91,7 +91,7 @@ module _ (t : Table) (k : ℕ) (p : List ℕ) where
   unfolding laterTurn
   later-announce e h = rw (eq-eqb k 1 e, le-leb 25 (length p) h)
 
-  pub later-announce-not : k ≡ 1 → length p < 25 → refused t ≡ laterTurn t k p
+  pub later-announce-not : k ≡ 1 → length p < 25 → badTurn t ≡ laterTurn t k p
   unfolding laterTurn
   later-announce-not e h = rw (eq-eqb k 1 e, lt-leb 25 (length p) h)
 
@@ -99,11 +99,11 @@ module _ (t : Table) (k : ℕ) (p : List ℕ) where
   unfolding laterTurn
   later-withdraw e h = rw (ne-eqb k 1 (λ z. omega arith), eq-eqb k 2 e, eq-eqb (length p) 4 h)
 
-  pub later-withdraw-not : k ≡ 2 → (length p ≡ 4 → ⊥) → refused t ≡ laterTurn t k p
+  pub later-withdraw-not : k ≡ 2 → (length p ≡ 4 → ⊥) → badTurn t ≡ laterTurn t k p
   unfolding laterTurn
   later-withdraw-not e h = rw (ne-eqb k 1 (λ z. omega arith), eq-eqb k 2 e, ne-eqb (length p) 4 h)
 
-  pub later-none : (k ≡ 1 → ⊥) → (k ≡ 2 → ⊥) → (k ≡ 3 → ⊥) → refused t ≡ laterTurn t k p
+  pub later-none : (k ≡ 1 → ⊥) → (k ≡ 2 → ⊥) → (k ≡ 3 → ⊥) → badTurn t ≡ laterTurn t k p
   unfolding laterTurn
   later-none a b c = rw (ne-eqb k 1 a, ne-eqb k 2 b, ne-eqb k 3 c)
 
@@ -112,11 +112,11 @@ module _ (t : Table) (k : ℕ) (p : List ℕ) where
     unfolding laterTurn
     later-query h m = rw (ne-eqb k 1 (λ z. omega arith), ne-eqb k 2 (λ z. omega arith), eq-eqb k 3 e, le-leb 4 (length p) h, eq-eqb (length p % 4) 0 m)
 
-    pub later-query-short : length p < 4 → refused t ≡ laterTurn t k p
+    pub later-query-short : length p < 4 → badTurn t ≡ laterTurn t k p
     unfolding laterTurn
     later-query-short h = rw (ne-eqb k 1 (λ z. omega arith), ne-eqb k 2 (λ z. omega arith), eq-eqb k 3 e, lt-leb 4 (length p) h)
 
-    pub later-query-odd : 4 ≤ length p → (length p % 4 ≡ 0 → ⊥) → refused t ≡ laterTurn t k p
+    pub later-query-odd : 4 ≤ length p → (length p % 4 ≡ 0 → ⊥) → badTurn t ≡ laterTurn t k p
     unfolding laterTurn
     later-query-odd h m = rw (ne-eqb k 1 (λ z. omega arith), ne-eqb k 2 (λ z. omega arith), eq-eqb k 3 e, le-leb 4 (length p) h, ne-eqb (length p % 4) 0 m)
 
@@ -131,7 +131,7 @@ module _ (h : Phase) (t : Table) (k : ℕ) (p : List ℕ) where
   unfolding turnIn
   turn-begin q e = rw (q, eq-eqb k 0 e)
 
-  pub turn-none : h ≡ Start → (k ≡ 0 → ⊥) → refused t ≡ turnIn h t k p
+  pub turn-none : h ≡ Start → (k ≡ 0 → ⊥) → badTurn t ≡ turnIn h t k p
   unfolding turnIn
   turn-none q e = rw (q, ne-eqb k 0 e)
 

@@ -12,7 +12,7 @@
 --   stateIn h w        == the state of the phase h with the table that lies in the words w
 --   running t          == the state in which records are carried out upon the table t
 --   ended t            == the state in which nothing more is looked at
---   refused t          == a bad record's turn
+--   badTurn t          == a bad record's turn
 --   textTurn t p      == the turn of the first record, the text p (a plate in document 01)
 --   announceTurn t p   == the turn of an announcement: 25 route octets, then communities
 --   withdrawTurn t p   == the turn of a withdrawal
@@ -88,8 +88,8 @@ abbrev pub ended : Table → Bench
 ended t = record { phase = Ended; table = t }
 
 -- TURNS
-abbrev pub refused : Table → Turn
-refused t = record { line = badLine; next = ended t }
+abbrev pub badTurn : Table → Turn
+badTurn t = record { line = badLine; next = ended t }
 
 -- a refused plate prints its line and ends
 unfoldable pub textTurn : Table → List ℕ → Turn
@@ -126,14 +126,14 @@ queryTurn t p = record {
 -- kinds 1 to 3: an announcement of at least 25 octets, a withdrawal of 4, a query of a multiple of 4 and at least 4
 unfoldable pub laterTurn : Table → ℕ → List ℕ → Turn
 laterTurn t k p =
-    cond (eqb k 1) (cond (leb 25 (length p)) (announceTurn t p) (refused t))
-    (cond (eqb k 2) (cond (eqb (length p) 4) (withdrawTurn t p) (refused t))
-    (cond (eqb k 3) (cond (leb 4 (length p) && eqb (length p % 4) 0) (queryTurn t p) (refused t))
-    (refused t)))
+    cond (eqb k 1) (cond (leb 25 (length p)) (announceTurn t p) (badTurn t))
+    (cond (eqb k 2) (cond (eqb (length p) 4) (withdrawTurn t p) (badTurn t))
+    (cond (eqb k 3) (cond (leb 4 (length p) && eqb (length p % 4) 0) (queryTurn t p) (badTurn t))
+    (badTurn t)))
 
 -- the first record is of kind 0, and no later one is
 unfoldable pub turnIn : Phase → Table → ℕ → List ℕ → Turn
-turnIn Start t k p = cond (eqb k 0) (textTurn t p) (refused t)
+turnIn Start t k p = cond (eqb k 0) (textTurn t p) (badTurn t)
 turnIn Running t k p = laterTurn t k p
 turnIn Ended t k p = record { line = []; next = ended t }
 

@@ -16,7 +16,7 @@ ghost use Rattle.records.specs.Records.{
   readLine,
   electedLine,
   queryLine,
-  refused,
+  badTurn,
   textTurn,
   announceTurn,
   withdrawTurn,
@@ -134,7 +134,7 @@ pub fn put_bad(out: &mut [u8], at: usize) -> usize
 // A bad record: its line is put, and the run ends. The table stays as it is, whatever its words are.
 fn refuse(out: &mut [u8], at: usize) -> Step
     requires { ⌜ at + 40 ≤ length (now out) ⌝ }
-    ensures { λ r. ⌜ ((w : List ℕ) → Valid w → Stepped (now (out .entry)) at (refused (tableIn w)) r w (now (out .exit))) ⌝ }
+    ensures { λ r. ⌜ ((w : List ℕ) → Valid w → Stepped (now (out .entry)) at (badTurn (tableIn w)) r w (now (out .exit))) ⌝ }
 {
     let end = put_bad(out, at);
     Step {
