@@ -1,23 +1,45 @@
-// The originator address of a route: an IPv4 address, high octet first, so that addresses order as numbers.
-// Addresses are compared by their keys. An address is kept as a row of words (`rows`), and the row has the same key.
+// The originator address of a route, of either family. Addresses are compared by their keys: the number that the 17 octets of an address make, the family
+// before the address. An address is kept as a row of words (`rows`), and the row has the same key.
 ghost use mathlib.Core.Path.{_≡_};
-ghost use Rattle.address.specs.Address.{isZero, addressRow};
+ghost use Rattle.address.specs.Address.{addressKey, isZero, Small, addressRow};
 
-pub type Address = u32;
+// The family of an address. No number that names neither can be handed in.
+pub enum Family {
+    V4,
+    V6,
+}
 
-// How many words an address has as a row.
-pub const WIDTH: usize = 1;
+// An address: its family and sixteen octets as four words, high octet first. An IPv4 address is in the first word, and the others don't count.
+pub struct Address {
+    pub family: Family,
+    pub w0: u32,
+    pub w1: u32,
+    pub w2: u32,
+    pub w3: u32,
+}
 
-// Whether the address is 0.0.0.0, which document 01 refuses.
+// How many words an address has as a row: the family's number and four words.
+pub const WIDTH: usize = 5;
+
+// Whether the address is all zero, which document 01 refuses. Words add up to zero only where each of them is.
 pub fn is_zero(a: Address) -> bool
-    ensures { λ r. ⌜ r ≡ isZero a ⌝ }
+    ensures { λ r. ⌜ r ≡ isZero (addressKey a) ⌝ }
 {
-    a == 0
+    let family = a.family;
+    match family {
+        Family::V4 => a.w0 == 0,
+        Family::V6 => (a.w0 as u64) + (a.w1 as u64) + (a.w2 as u64) + (a.w3 as u64) == 0,
+    }
 }
 
 // The address as a row of words.
 pub fn row(a: Address) -> [u32; WIDTH]
-    ensures { λ r. ⌜ r ≡ addressRow a ⌝ }
+    ensures words { λ r. ⌜ r ≡ addressRow (addressKey a) ⌝ }
+    ensures small { λ _. ⌜ Small (addressKey a) ⌝ }
 {
-    [a]
+    let family = a.family;
+    match family {
+        Family::V4 => [4, a.w0, 0, 0, 0],
+        Family::V6 => [6, a.w0, a.w1, a.w2, a.w3],
+    }
 }

@@ -2,7 +2,7 @@
 -- Assumes nothing.
 use Prim.Native.Nat.{ℕ, zero, suc, _+_, _*_, _/_, _%_, _^_, _≤_, _<_}
 use native.Mathlib.Nat.{pow-succ', one-le-pow}
-use native.Mathlib.Nat.{div-one, mod-one, mod-lt, mod-eq-of-lt, le-refl, le-of-eq, add-assoc, zero-add}
+use native.Mathlib.Nat.{div-one, mod-one, mod-lt, mod-eq-of-lt, le-refl, le-of-eq, add-assoc, zero-add, add-mul, mul-assoc}
 use native.Mathlib.Numerals.{add-one}
 use native.Mathlib.Omega.{arith}
 use mathlib.Core.Path.{_≡_, refl, ap, ap₂, _∙_, sym, subst}
@@ -11,6 +11,7 @@ use mathlib.Core.List.{List, [], _∷_, _++_, append-assoc, append-nil}
 use lib.ListN.{length, getD, set, take, drop, replicate, length-append, length-drop, drop-of-length-le}
 use lib.Seq.{take-at, take-append-seam, take-length, length-take-le, drop-append-add, drop-drop, getD-drop, length-paste, paste-suc, take-all, drop-cons}
 use lib.Arith.{mod-mul}
+use lib.Pow.{pow-add}
 use lib.Dec.{leb, eqb}
 use borrow.Author.Tests.{eq-eqb, ne-eqb, eqb-true, le-leb, lt-leb, leb-true}
 use Rattle.lists.proofs.Bools.{cond-by, not-true-false}
@@ -97,6 +98,14 @@ number-octets (suc n) v =
 
 pub number-octets-small : (n v : ℕ) → v < 256 ^ n → numberOf (octetsOf n v) ≡ v
 number-octets-small n v h = number-octets n v ∙ mod-eq-of-lt h
+
+pub number-append : (a b : List ℕ) → numberOf (a ++ b) ≡ numberOf a * 256 ^ length b + numberOf b
+unfolding numberOf
+number-append [] b = omega arith
+number-append (x ∷ a) b =
+    let p = 256 ^ length b in
+    rw (length-append a b, pow-add 256 (length a) (length b), number-append a b, add-mul (x * 256 ^ length a) (numberOf a) p, mul-assoc x (256 ^ length a) p)
+    (sym (add-assoc (x * (256 ^ length a * p)) (numberOf a * p) (numberOf b)))
 
 -- the number of four octets, as a sum
 pub number-four : (a b c d : ℕ) → numberOf (a ∷ b ∷ c ∷ d ∷ []) ≡ a * 16777216 + b * 65536 + c * 256 + d
