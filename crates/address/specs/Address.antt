@@ -1,68 +1,55 @@
--- Addresses (document 02, M-105; document 01, "The route" and "The table"). In every definition an address is its key: the number that its 17 octets make,
--- high octet first. They are the family, 4 or 6, then sixteen: an IPv4 address in the first four, then zeros. So every IPv4 address is lower than every IPv6
--- one, and within a family addresses order as numbers.
---   familyNumber f     == 4 or 6
---   addressWords a     == the sixteen octets of the address a, which is handed in, as four words: in an IPv4 one the words after the first don't count
+-- Addresses (document 02, M-105; document 01, "The route" and "The table"). An address is a family, 4 or 6, and sixteen octets: an IPv4 address in the first
+-- four, then zeros. In every definition it is the row of words that it is kept as: the family, then the sixteen octets as four words.
+--   addressRow a       == the address a, which is handed in, as a row: in an IPv4 one the words after the first don't count
+--   IsAddress r        == the row r is an address
 --   octetsIn r         == the octets of the words r, four to a word
---   addressKey a       == the key of the address a
---   familyOf k         == the family of the address k, as a number
---   octetsAt k         == the sixteen octets of the address k
---   addressNumber k    == the address k as a number of 32 or of 128 bits, by its family
---   isZero k           == whether the address k is all zero
---   rowOf n v          == the low n words of the number v
---   addressRow k       == the address k as a row of words: the family and four words
---   addressIn r        == the address that a row of words is
---   Small k            == k is no greater than a row of words can say
-use Prim.Native.Nat.{ℕ, zero, suc, _/_, _%_, _^_, _<_}
+--   familyOf r, octetsOfAddress r == the family of the address r, as a number, and its sixteen octets
+--   addressKey r       == the number that addresses are ordered by. It is the one that the 17 octets of the address make, the family first (`SeventeenOctets`),
+--                         so every IPv4 address is lower than every IPv6 one, and within a family addresses order as numbers
+--   SeventeenOctets r  == that
+--   addressNumber r    == the address r as a number of 32 or of 128 bits, by its family
+--   isZero r           == whether the address r is all zero
+use Prim.Native.Nat.{ℕ}
+use mathlib.Core.Path.{_≡_}
 use mathlib.Core.Bool.{Bool, cond}
 use mathlib.Core.List.{List, [], _∷_, _++_}
+use lib.ListN.{getD, drop}
 use lib.Dec.{eqb}
-use Rattle.octets.specs.Octets.{numberOf, octetsOf}
+use Rattle.octets.specs.Octets.{numberOf, octetsOf, allAre}
 use Rattle.rows.specs.Rows.{rowKey}
 use Rattle.address.specs.declared.Family.{Family}
 use Rattle.address.specs.declared.Family.the-variants.{V4, V6}
 use Rattle.address.specs.declared.Address.{Address}
 
-unfoldable pub familyNumber : Family → ℕ
-familyNumber V4 = 4
-familyNumber V6 = 6
+abbrev pub rowUnder : Family → ℕ → ℕ → ℕ → ℕ → List ℕ
+rowUnder V4 a b c d = 4 ∷ a ∷ 0 ∷ 0 ∷ 0 ∷ []
+rowUnder V6 a b c d = 6 ∷ a ∷ b ∷ c ∷ d ∷ []
 
-unfoldable pub wordsUnder : Family → ℕ → ℕ → ℕ → ℕ → List ℕ
-wordsUnder V4 a b c d = a ∷ 0 ∷ 0 ∷ 0 ∷ []
-wordsUnder V6 a b c d = a ∷ b ∷ c ∷ d ∷ []
+unfoldable pub addressRow : Address → List ℕ
+addressRow a = rowUnder (a .family) (a .w0) (a .w1) (a .w2) (a .w3)
 
-abbrev pub addressWords : Address → List ℕ
-addressWords a = wordsUnder (a .family) (a .w0) (a .w1) (a .w2) (a .w3)
+pub data IsAddress (r : List ℕ) : Type 0 where
+  ipv4 : (a : ℕ) → r ≡ 4 ∷ a ∷ 0 ∷ 0 ∷ 0 ∷ [] → IsAddress r
+  ipv6 : (a b c d : ℕ) → r ≡ 6 ∷ a ∷ b ∷ c ∷ d ∷ [] → IsAddress r
 
 unfoldable pub octetsIn : List ℕ → List ℕ
 octetsIn [] = []
 octetsIn (w ∷ r) = octetsOf 4 w ++ octetsIn r
 
-unfoldable pub addressKey : Address → ℕ
-addressKey a = numberOf (familyNumber (a .family) ∷ octetsIn (addressWords a))
+unfoldable pub familyOf : List ℕ → ℕ
+familyOf r = getD r 0 0
 
-unfoldable pub familyOf : ℕ → ℕ
-familyOf k = k / 256 ^ 16 % 256
+unfoldable pub octetsOfAddress : List ℕ → List ℕ
+octetsOfAddress r = octetsIn (drop 1 r)
 
-unfoldable pub octetsAt : ℕ → List ℕ
-octetsAt k = octetsOf 16 k
+unfoldable pub addressKey : List ℕ → ℕ
+addressKey r = rowKey r
 
-unfoldable pub addressNumber : ℕ → ℕ
-addressNumber k = cond (eqb (familyOf k) 4) (k / 256 ^ 12 % 256 ^ 4) (k % 256 ^ 16)
+abbrev pub SeventeenOctets : List ℕ → Type 0
+SeventeenOctets r = addressKey r ≡ numberOf (familyOf r ∷ octetsOfAddress r)
 
-unfoldable pub isZero : ℕ → Bool
-isZero k = eqb (k % 256 ^ 16) 0
+unfoldable pub addressNumber : List ℕ → ℕ
+addressNumber r = cond (eqb (familyOf r) 4) (getD r 1 0) (rowKey (drop 1 r))
 
--- AS A ROW OF WORDS
-unfoldable pub rowOf : ℕ → ℕ → List ℕ
-rowOf zero v = []
-rowOf (suc n) v = v / 4294967296 ^ n % 4294967296 ∷ rowOf n v
-
-unfoldable pub addressRow : ℕ → List ℕ
-addressRow k = rowOf 5 k
-
-unfoldable pub addressIn : List ℕ → ℕ
-addressIn r = rowKey r % 4294967296 ^ 5
-
-unfoldable pub Small : ℕ → Type 0
-Small k = k < 4294967296 ^ 5
+unfoldable pub isZero : List ℕ → Bool
+isZero r = allAre 0 (drop 1 r)

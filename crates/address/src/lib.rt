@@ -1,7 +1,7 @@
 // The originator address of a route, of either family. Addresses are compared by their keys: the number that the 17 octets of an address make, the family
 // before the address. An address is kept as a row of words (`rows`), and the row has the same key.
 ghost use mathlib.Core.Path.{_≡_};
-ghost use Rattle.address.specs.Address.{addressKey, isZero, Small, addressRow};
+ghost use Rattle.address.specs.Address.{isZero, addressRow, IsAddress, SeventeenOctets};
 
 // The family of an address. No number that names neither can be handed in.
 pub enum Family {
@@ -23,7 +23,7 @@ pub const WIDTH: usize = 5;
 
 // Whether the address is all zero, which document 01 refuses. Words add up to zero only where each of them is.
 pub fn is_zero(a: Address) -> bool
-    ensures { λ r. ⌜ r ≡ isZero (addressKey a) ⌝ }
+    ensures { λ r. ⌜ r ≡ isZero (addressRow a) ⌝ }
 {
     let family = a.family;
     match family {
@@ -32,10 +32,11 @@ pub fn is_zero(a: Address) -> bool
     }
 }
 
-// The address as a row of words.
+// The address as a row of words. Its key is the number of the address's 17 octets.
 pub fn row(a: Address) -> [u32; WIDTH]
-    ensures words { λ r. ⌜ r ≡ addressRow (addressKey a) ⌝ }
-    ensures small { λ _. ⌜ Small (addressKey a) ⌝ }
+    ensures words { λ r. ⌜ r ≡ addressRow a ⌝ }
+    ensures address { λ r. ⌜ IsAddress r ⌝ }
+    ensures key { λ r. ⌜ SeventeenOctets r ⌝ }
 {
     let family = a.family;
     match family {

@@ -1,30 +1,27 @@
--- `row` meets its contract: the words of an address are those of its key. Assumes nothing.
+-- `row` meets its contract: an address is kept as its words. Assumes nothing.
 use native.Mathlib.Omega.{arith}
-use mathlib.Core.Path.{ap}
+use mathlib.Core.Path.{refl, ap, sym}
+use mathlib.Core.List.{[], _∷_}
 use borrow.Author.Needs.{needs}
-use Rattle.address.specs.Address.{familyNumber, wordsUnder}
+use Rattle.address.specs.Address.{rowUnder, addressRow, ipv4, ipv6}
 use Rattle.address.specs.declared.Family.{Family}
-use Rattle.address.proofs.Laws.{words-four, row-words, small-words}
+use Rattle.address.proofs.Laws.{words-four, seventeen}
 use Rattle.address.proofs.row.Statement.{statement}
 use Rattle.address.proofs.row.Tie as tie
 
 returns : tie.Need-returns
-unfolding familyNumber wordsUnder
+unfolding addressRow
 returns c =
     let a = c .before .before .args .a in
     let o = words-four (a .w0) 0 0 0 (omega arith) (omega arith) (omega arith) (omega arith) in
-    let u = ap familyNumber (c .enum-told .given .1) in
-    let v = ap (λ (f : Family). wordsUnder f (a .w0) (a .w1) (a .w2) (a .w3)) (c .enum-told .given .1) in
-    (row-words a 4 (a .w0) 0 0 0 u v o (omega arith), small-words a 4 (a .w0) 0 0 0 u v o (omega arith))
+    (sym (ap (λ (f : Family). rowUnder f (a .w0) (a .w1) (a .w2) (a .w3)) (c .enum-told .given .1)), (ipv4 (a .w0) refl, seventeen 4 (a .w0 ∷ 0 ∷ 0 ∷ 0 ∷ []) o))
 
 returns-2 : tie.Need-returns-2
-unfolding familyNumber wordsUnder
+unfolding addressRow
 returns-2 c =
     let a = c .before .before .args .a in
     let o = words-four (a .w0) (a .w1) (a .w2) (a .w3) (omega arith) (omega arith) (omega arith) (omega arith) in
-    let u = ap familyNumber (c .enum-told2 .given .1) in
-    let v = ap (λ (f : Family). wordsUnder f (a .w0) (a .w1) (a .w2) (a .w3)) (c .enum-told2 .given .1) in
-    (row-words a 6 (a .w0) (a .w1) (a .w2) (a .w3) u v o (omega arith), small-words a 6 (a .w0) (a .w1) (a .w2) (a .w3) u v o (omega arith))
+    (sym (ap (λ (f : Family). rowUnder f (a .w0) (a .w1) (a .w2) (a .w3)) (c .enum-told2 .given .1)), (ipv6 (a .w0) (a .w1) (a .w2) (a .w3) refl, seventeen 6 (a .w0 ∷ a .w1 ∷ a .w2 ∷ a .w3 ∷ []) o))
 
 pub row-spec : {M : Type 1} → statement M
 row-spec = tie.close (tie.spec (λ c. search needs) (λ c. search needs) returns returns-2)
