@@ -12,7 +12,7 @@ use lib.Arith.{digits-div, digits-mod}
 use borrow.Author.Tests.{ne-eqb}
 use Rattle.lists.specs.Lists.{all}
 use Rattle.octets.specs.Octets.{numberOf, octetsOf, allAre}
-use Rattle.octets.proofs.Laws.{length-octets, number-octets-small, number-append}
+use Rattle.octets.proofs.Laws.{length-octets, number-octets-small, number-append, four-octets}
 use Rattle.rows.specs.Rows.{rowKey}
 use Rattle.rows.proofs.Compared.{Words, key-lt}
 use Rattle.address.specs.Address.{IsAddress, ipv4, ipv6, octetsIn, familyOf, octetsOfAddress, addressKey, SeventeenOctets, isZero}
@@ -37,6 +37,17 @@ unfolding octetsIn rowKey
 number-words [] o = number-none
 number-words (w ∷ r) o =
     rw (number-append (octetsOf 4 w) (octetsIn r), octets-power r, number-octets-small 4 w (o 0), number-words r (λ i. o (suc i)))
+
+-- sixteen octets, four to a word
+pub spread : (p q r s : List ℕ) (a b c d : ℕ) → p ≡ octetsOf 4 a → q ≡ octetsOf 4 b → r ≡ octetsOf 4 c → s ≡ octetsOf 4 d
+    → getD p 0 0 ∷ getD p 1 0 ∷ getD p 2 0 ∷ getD p 3 0
+    ∷ getD q 0 0 ∷ getD q 1 0 ∷ getD q 2 0 ∷ getD q 3 0
+    ∷ getD r 0 0 ∷ getD r 1 0 ∷ getD r 2 0 ∷ getD r 3 0
+    ∷ getD s 0 0 ∷ getD s 1 0 ∷ getD s 2 0 ∷ getD s 3 0
+    ∷ []
+    ≡ octetsIn (a ∷ b ∷ c ∷ d ∷ [])
+unfolding octetsIn
+spread p q r s a b c d e f g h = rw (e, f, g, h, four-octets a, four-octets b, four-octets c, four-octets d)
 
 -- the key of a row of words is the number of its octets, the family before the address
 pub seventeen : (f : ℕ) (r : List ℕ) → Words r → SeventeenOctets (f ∷ r)
@@ -102,3 +113,7 @@ key-head w r h =
 pub key-above : (r : List ℕ) → IsAddress r → 1 ≤ addressKey r
 key-above r (ipv4 a e) = rw e (key-head 4 (a ∷ 0 ∷ 0 ∷ 0 ∷ []) (omega arith))
 key-above r (ipv6 a b c d e) = rw e (key-head 6 (a ∷ b ∷ c ∷ d ∷ []) (omega arith))
+
+pub key-row : (r : List ℕ) → rowKey r ≡ addressKey r
+unfolding addressKey
+key-row r = refl

@@ -1,3 +1,4 @@
 pub mod Words
+mod Addresses
 pub mod Stores
 pub mod Lookups

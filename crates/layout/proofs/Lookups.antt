@@ -4,8 +4,8 @@ use native.Mathlib.Omega.{arith}
 use mathlib.Core.Path.{_≡_, ap, ap₂, _∙_}
 use mathlib.Core.List.{List, map}
 use lib.ListN.{length, length-map}
-use Rattle.address.specs.Address.{addressKey, addressRow}
-use Rattle.address.proofs.Laws.{row-key, row-length}
+use Rattle.address.specs.Address.{addressKey, IsAddress}
+use Rattle.address.proofs.Laws.{key-row, length-address}
 use Rattle.keyed.specs.Keyed.{Rising}
 use Rattle.keyed.proofs.Keyed as keyed
 use Rattle.rows.specs.Rows.{rowsIn, rowKey, foundIn, looksFor}
@@ -16,18 +16,18 @@ use Rattle.layout.specs.Words.{tableIn, Valid}
 use Rattle.layout.proofs.Words.{length-valid, rows-addresses, rising-rows}
 
 abbrev rowOf : Entry → List ℕ
-rowOf e = addressRow (e .address)
+rowOf e = e .address
 
 found-rows : (k : ℕ) (l : List Entry) → foundIn rowKey k (map rowOf l) ≡ foundIn entryKey k l
 unfolding foundIn
-found-rows k l = rw (keyed.map-has rowOf entryKey rowKey (λ e. row-key (e .address)) k l, keyed.map-rank rowOf entryKey rowKey (λ e. row-key (e .address)) k l)
+found-rows k l = rw (keyed.map-has rowOf entryKey rowKey (λ e. key-row (e .address)) k l, keyed.map-rank rowOf entryKey rowKey (λ e. key-row (e .address)) k l)
 
-module _ (b row : List ℕ) (n first a : ℕ) (h : Valid b) (z : n ≡ length (tableIn b .entries)) (k : row ≡ addressRow a) where
+module _ (b row : List ℕ) (n first : ℕ) (a : List ℕ) (h : Valid b) (z : n ≡ length (tableIn b .entries)) (k : row ≡ a) (g : IsAddress row) where
   abbrev es : List Entry
   es = tableIn b .entries
 
-  width : length row ≡ 1
-  width = ap length k ∙ row-length a
+  width : length row ≡ 5
+  width = length-address row g
 
   rows-are : rowsIn (length row) n b ≡ map rowOf es
   rows-are = ap₂ (λ (w m : ℕ). rowsIn w m b) width z ∙ rows-addresses b h
@@ -38,7 +38,7 @@ module _ (b row : List ℕ) (n first a : ℕ) (h : Valid b) (z : n ≡ length (t
   pub lookup-told : (f : Found) (d : ℕ) → f ≡ foundIn rowKey (rowKey row) (rowsIn (length row) n b) → d ≡ length (looksFor first (rowKey row) (map rowKey (rowsIn (length row) n b)))
       → (f ≡ foundIn entryKey (addressKey a) es) × ((d ≡ length (looksFor first (addressKey a) (map entryKey es))) × (d ≤ 7))
   lookup-told f d p q =
-      let key : rowKey row ≡ addressKey a = ap rowKey k ∙ row-key a in
-      let keys : map rowKey (rowsIn (length row) n b) ≡ map entryKey es = ap (map rowKey) rows-are ∙ keyed.map-keys rowOf entryKey rowKey (λ e. row-key (e .address)) es in
+      let key : rowKey row ≡ addressKey a = ap rowKey k ∙ key-row a in
+      let keys : map rowKey (rowsIn (length row) n b) ≡ map entryKey es = ap (map rowKey) rows-are ∙ keyed.map-keys rowOf entryKey rowKey (λ e. key-row (e .address)) es in
       let looks : d ≡ length (looksFor first (addressKey a) (map entryKey es)) = q ∙ ap₂ (λ (m : ℕ) (ks : List ℕ). length (looksFor first m ks)) key keys in
       (p ∙ ap₂ (λ (m : ℕ) (l : List (List ℕ)). foundIn rowKey m l) key rows-are ∙ found-rows (addressKey a) es, (looks, omega (arith, few-looks (addressKey a) (map entryKey es) first 6 (omega (arith, h .sound .short, length-map es entryKey)), looks)))

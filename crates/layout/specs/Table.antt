@@ -4,6 +4,7 @@
 --   noEntry                == what is read where no entry stands
 --   entryOf a e            == the entry of the address a, as its communities say e
 --   EntryRight e           == e is what a community can say
+--   AddressRight e         == the entry's address is one, and not zero
 --   Table                  == a table: the identifier, and the entries
 --   tableOf i l            == the table of the identifier i that holds the entries l
 --   WellFormed t           == what every call keeps of a table; with the sizes of the words it is all that the calls can have made (`Valid`)
@@ -11,11 +12,11 @@
 use Prim.Native.Nat.{ℕ, _≤_}
 use mathlib.Core.Path.{_≡_}
 use mathlib.Core.Bool.{Bool, false, cond}
-use mathlib.Core.List.{List}
+use mathlib.Core.List.{List, []}
 use mathlib.Core.Logic.{_⊎_}
 use lib.ListN.{length, replicate}
 use Rattle.lists.specs.Lists.{Every}
-use Rattle.address.specs.Address.{addressKey}
+use Rattle.address.specs.Address.{addressKey, IsAddress, isZero}
 use Rattle.esi.specs.Reserved.{reserved}
 use Rattle.community.specs.declared.Election.{Election}
 use Rattle.community.specs.Community.{electionUnder}
@@ -23,7 +24,7 @@ use Rattle.keyed.specs.Keyed.{Rising}
 
 -- ENTRIES: as the community was read, and nothing else
 pub record Entry : Type 0 where
-  pub address : ℕ
+  pub address : List ℕ
   pub algorithm : ℕ
   pub «ac_df» : Bool
   pub dp : Bool
@@ -33,14 +34,17 @@ abbrev pub entryKey : Entry → ℕ
 entryKey e = addressKey (e .address)
 
 abbrev pub noEntry : Entry
-noEntry = record { address = 0; algorithm = 0; «ac_df» = false; dp = false; preference = 0 }
+noEntry = record { address = []; algorithm = 0; «ac_df» = false; dp = false; preference = 0 }
 
-abbrev pub entryOf : ℕ → Election → Entry
+abbrev pub entryOf : List ℕ → Election → Entry
 entryOf a e = record { address = a; algorithm = e .algorithm; «ac_df» = e .«ac_df»; dp = e .dp; preference = e .preference }
 
 -- what a community can say: an algorithm of five bits, and DP and preference under 2 and 3 only
 abbrev pub EntryRight : Entry → Type 0
 EntryRight e = (e .algorithm ≤ 31) × (e ≡ entryOf (e .address) (electionUnder (e .algorithm) (e .«ac_df») (e .dp) (e .preference)))
+
+abbrev pub AddressRight : Entry → Type 0
+AddressRight e = IsAddress (e .address) × (isZero (e .address) ≡ false)
 
 -- STATES
 pub record Table : Type 0 where
@@ -56,6 +60,7 @@ pub record WellFormed (t : Table) : Type 0 where
   pub short : length (t .entries) ≤ 64
   pub rising : Rising entryKey 1 (t .entries)
   pub right : Every EntryRight (t .entries)
+  pub addresses : Every AddressRight (t .entries)
 
 unfoldable pub ownerOf : List ℕ → List ℕ
 ownerOf i = cond (reserved i) (replicate 10 0) i

@@ -1,11 +1,11 @@
--- How a table lies in the words that a caller lends: a column of 64 addresses, a column of 64 words of attributes, the number of entries, and the ten
--- octets of the identifier, one to a word; 139 words of 32 bits. The entries stand in rising address order and unused places are zero, so that equal contents are
+-- How a table lies in the words that a caller lends: a column of 64 addresses of five words, a column of 64 words of attributes, the number of
+-- entries, and the ten octets of the identifier, one to a word; 395 words of 32 bits. The entries stand in rising address order and unused places are zero, so that equal contents are
 -- equal words (document 01, "The table", which leaves the form of a table open).
 --   kindOf e           == the algorithm and the AC-DF bit of the entry e as one number
 --   standingOf e       == its preference in 16 bits and the DP bit behind it
 --   attributesOf e     == both as one number: all of the entry but its address
 --   addressColumn l, attributeColumn l == the rows of the two columns that hold the entries l
---   entryIn r w        == the entry of the address in the row r with the attributes in the row w
+--   entryIn r w        == the entry of the address r with the attributes in the row w
 --   entriesIn rs ws    == the entries of the rows rs and ws
 --   wordsOf t          == THE words of the table t
 --   tableIn b          == the table that lies in the words b
@@ -19,7 +19,6 @@ use lib.ListN.{length, getD, drop}
 use lib.Dec.{eqb}
 use Rattle.lists.specs.Lists.{bit, Every}
 use Rattle.rows.specs.Rows.{rowsIn, column}
-use Rattle.address.specs.Address.{addressRow, addressIn}
 use Rattle.community.specs.declared.Election.{Election}
 use Rattle.layout.specs.Table.{Entry, entryOf, Table, WellFormed}
 
@@ -33,14 +32,14 @@ unfoldable pub attributesOf : Entry → ℕ
 attributesOf e = kindOf e * 131072 + standingOf e
 
 abbrev pub addressColumn : List Entry → List (List ℕ)
-addressColumn l = map (λ e. addressRow (e .address)) l
+addressColumn l = map (λ e. e .address) l
 
 abbrev pub attributeColumn : List Entry → List (List ℕ)
 attributeColumn l = map (λ e. attributesOf e ∷ []) l
 
 unfoldable pub entryIn : List ℕ → List ℕ → Entry
 entryIn r w = record {
-  address = addressIn r;
+  address = r;
   algorithm = getD w 0 0 / 131072 / 2;
   «ac_df» = eqb (getD w 0 0 / 131072 % 2) 1;
   dp = eqb (getD w 0 0 % 131072 % 2) 1;
@@ -53,12 +52,12 @@ entriesIn (r ∷ rs) [] = []
 entriesIn (r ∷ rs) (w ∷ ws) = entryIn r w ∷ entriesIn rs ws
 
 unfoldable pub wordsOf : Table → List ℕ
-wordsOf t = column 1 64 (addressColumn (t .entries)) ++ (column 1 64 (attributeColumn (t .entries)) ++ (length (t .entries) ∷ t .esi))
+wordsOf t = column 5 64 (addressColumn (t .entries)) ++ (column 1 64 (attributeColumn (t .entries)) ++ (length (t .entries) ∷ t .esi))
 
 unfoldable pub tableIn : List ℕ → Table
 tableIn b = record {
-  esi = drop 129 b;
-  entries = entriesIn (rowsIn 1 (getD b 128 0) b) (rowsIn 1 (getD b 128 0) (drop 64 b));
+  esi = drop 385 b;
+  entries = entriesIn (rowsIn 5 (getD b 384 0) b) (rowsIn 1 (getD b 384 0) (drop 320 b));
 }
 
 abbrev pub Octets : List ℕ → Type 0
@@ -70,4 +69,4 @@ pub record Valid (b : List ℕ) : Type 0 where
   pub octets : Octets (tableIn b .esi)
 
 abbrev pub Packed : Election → ℕ → Type 0
-Packed e w = (w ≡ attributesOf (entryOf 0 e)) × (e .preference < 65536)
+Packed e w = (w ≡ attributesOf (entryOf [] e)) × (e .preference < 65536)

@@ -1,4 +1,5 @@
-// A route table in words that a caller lends: 64 addresses in rising order, 64 words of attributes, the number of entries, the ten octets of the identifier.
+// A route table in words that a caller lends: 64 addresses of five words in rising order, 64 words of attributes, the number of entries, the ten octets of the
+// identifier.
 // Unused places are zero. What lies where is known here alone; the calls are in `table`.
 use address::Address;
 use community::Election;
@@ -6,12 +7,12 @@ use rows::Found;
 use rows::Lookup;
 ghost use mathlib.Core.Path.{_≡_};
 ghost use mathlib.Core.List.{[], _∷_, _++_, map};
-ghost use Prim.Native.Nat.{_≤_, _<_};
+ghost use Prim.Native.Nat.{_%_, _^_, _≤_, _<_};
 ghost use lib.ListN.{length, getD, set, take};
 ghost use Rattle.octets.specs.Octets.{sameNumbers};
 ghost use Rattle.keyed.specs.Keyed.{spliced, cut};
 ghost use Rattle.rows.specs.Rows.{foundIn, looksFor};
-ghost use Rattle.address.specs.Address.{addressKey, addressRow};
+ghost use Rattle.address.specs.Address.{addressRow, familyOf, octetsOfAddress, addressKey, addressNumber};
 ghost use Rattle.layout.specs.Table.{entryKey, noEntry, tableOf};
 ghost use Rattle.layout.specs.Words.{kindOf, standingOf, entryIn, wordsOf, tableIn, Octets, Valid, Packed};
 
@@ -19,14 +20,14 @@ ghost use Rattle.layout.specs.Words.{kindOf, standingOf, entryIn, wordsO
 pub const MAX_ROUTES: usize = 64;
 
 // How many words a table has.
-pub const WORDS: usize = 139;
+pub const WORDS: usize = 395;
 
 // Where the parts of a table start in its words; the addresses start at 0.
-const ATTRIBUTES: usize = 64;
+const ATTRIBUTES: usize = 320;
 
-const COUNT: usize = 128;
+const COUNT: usize = 384;
 
-const ESI: usize = 129;
+const ESI: usize = 385;
 
 // How many octets an identifier has.
 const ESI_LENGTH: usize = 10;
@@ -43,8 +44,8 @@ fn octet(x: u8) -> u32
 
 // Writes an identifier of ten octets into its words.
 pub fn put_identifier(t: &mut [u32], esi: &[u8])
-    requires { ⌜ (length (now t) ≡ 139) × (length (now esi) ≡ 10) ⌝ }
-    ensures words { λ _. ⌜ now (t .exit) ≡ take 129 (now (t .entry)) ++ now (esi .entry) ⌝ }
+    requires { ⌜ (length (now t) ≡ 395) × (length (now esi) ≡ 10) ⌝ }
+    ensures words { λ _. ⌜ now (t .exit) ≡ take 385 (now (t .entry)) ++ now (esi .entry) ⌝ }
     ensures octets { λ _. ⌜ Octets (now (esi .entry)) ⌝ }
 {
     let mut i = 0;
@@ -91,12 +92,33 @@ pub fn count(t: &[u32]) -> usize
     t[COUNT] as usize
 }
 
-// The address of the entry at a place.
-pub fn address_at(t: &[u32], at: usize) -> Address
+// The family of the address at a place, as a number.
+pub fn family_at(t: &[u32], at: usize) -> u8
     requires { ⌜ Valid (now t) × (at < length (tableIn (now t) .entries)) ⌝ }
-    ensures { λ r. ⌜ r ≡ getD (tableIn (now (t .entry)) .entries) at noEntry .address ⌝ }
+    ensures { λ r. ⌜ r ≡ familyOf (getD (tableIn (now (t .entry)) .entries) at noEntry .address) ⌝ }
 {
-    t[at]
+    t[address::WIDTH * at] as u8
+}
+
+// The sixteen octets of the address at a place.
+pub fn octets_at(t: &[u32], at: usize) -> [u8; 16]
+    requires { ⌜ Valid (now t) × (at < length (tableIn (now t) .entries)) ⌝ }
+    ensures { λ r. ⌜ r ≡ octetsOfAddress (getD (tableIn (now (t .entry)) .entries) at noEntry .address) ⌝ }
+{
+    let start = address::WIDTH * at;
+    address::octets(t[start + 1], t[start + 2], t[start + 3], t[start + 4])
+}
+
+// The low 32 bits of the address at a place: all that the weight of an address asks for.
+pub fn low_word_at(t: &[u32], at: usize) -> u32
+    requires { ⌜ Valid (now t) × (at < length (tableIn (now t) .entries)) ⌝ }
+    ensures { λ r. ⌜ r ≡ addressNumber (getD (tableIn (now (t .entry)) .entries) at noEntry .address) % 2 ^ 32 ⌝ }
+{
+    let start = address::WIDTH * at;
+    if t[start] == 4 {
+        return t[start + 1];
+    }
+    t[start + 4]
 }
 
 // The algorithm and the AC-DF bit of the entry at a place, as one number.
@@ -128,8 +150,8 @@ pub fn standing_at(t: &[u32], at: usize) -> u32
 // Every lookup in a table goes through here.
 pub fn lookup(t: &[u32], first: usize, address: Address) -> Lookup
     requires { ⌜ Valid (now t) ⌝ }
-    ensures found { λ r. ⌜ r .found ≡ foundIn entryKey (addressKey address) (tableIn (now (t .entry)) .entries) ⌝ }
-    ensures looks { λ r. ⌜ r .looks ≡ length (looksFor first (addressKey address) (map entryKey (tableIn (now (t .entry)) .entries))) ⌝ }
+    ensures found { λ r. ⌜ r .found ≡ foundIn entryKey (addressKey (addressRow address)) (tableIn (now (t .entry)) .entries) ⌝ }
+    ensures looks { λ r. ⌜ r .looks ≡ length (looksFor first (addressKey (addressRow address)) (map entryKey (tableIn (now (t .entry)) .entries))) ⌝ }
     ensures few { λ r. ⌜ r .looks ≤ 7 ⌝ }
 {
     let n = count(t);
@@ -140,7 +162,7 @@ pub fn lookup(t: &[u32], first: usize, address: Address) -> Lookup
 // Where an address stands, or would stand. No place in use is proposed, so the entry in the middle is looked at first.
 pub fn find(t: &[u32], address: Address) -> Found
     requires { ⌜ Valid (now t) ⌝ }
-    ensures { λ r. ⌜ r ≡ foundIn entryKey (addressKey address) (tableIn (now (t .entry)) .entries) ⌝ }
+    ensures { λ r. ⌜ r ≡ foundIn entryKey (addressKey (addressRow address)) (tableIn (now (t .entry)) .entries) ⌝ }
 {
     let r = lookup(t, MAX_ROUTES, address);
     r.found
@@ -158,7 +180,7 @@ pub fn attributes(e: Election) -> u32
 // Other attributes for the entry at a place.
 pub fn replace(t: &mut [u32], at: usize, word: u32)
     requires { ⌜ Valid (now t) × (at < length (tableIn (now t) .entries)) ⌝ }
-    ensures { λ _. ⌜ now (t .exit) ≡ wordsOf (tableOf (tableIn (now (t .entry)) .esi) (set (tableIn (now (t .entry)) .entries) at (entryIn (addressRow (getD (tableIn (now (t .entry)) .entries) at noEntry .address)) (word ∷ [])))) ⌝ }
+    ensures { λ _. ⌜ now (t .exit) ≡ wordsOf (tableOf (tableIn (now (t .entry)) .esi) (set (tableIn (now (t .entry)) .entries) at (entryIn (getD (tableIn (now (t .entry)) .entries) at noEntry .address) (word ∷ [])))) ⌝ }
 {
     t[ATTRIBUTES + at] = word;
 }

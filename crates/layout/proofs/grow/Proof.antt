@@ -6,10 +6,11 @@ use mathlib.Core.List.{List}
 use lib.ListN.{length, take, drop, length-set, length-drop}
 use borrow.Author.Needs.{needs}
 use borrow.Rule.Slice.PartMut.{putMid}
-use Rattle.address.proofs.Laws.{row-length}
+use Rattle.address.specs.Address.{addressRow}
+use Rattle.address.proofs.Laws.{length-address}
 use Rattle.rows.proofs.Rows.{length-inserted}
 use Rattle.layout.specs.Words.{tableIn}
-use Rattle.layout.proofs.Words.{length-valid}
+use Rattle.layout.proofs.Words.{length-valid, wide-addresses}
 use Rattle.layout.proofs.Stores.{part-all, put-length, grown-words}
 use Rattle.layout.proofs.grow.Statement.{statement}
 use Rattle.layout.proofs.grow.Tie as tie
@@ -25,11 +26,11 @@ module _ (r : tie.After-row2) where
   abbrev n : ℕ
   n = r .before .before .before .count .result
 
-  sized : length words ≡ 139
+  sized : length words ≡ 395
   sized = length-valid words (from .pre .0)
 
-  width : length (r .before .before .row .result) ≡ 1
-  width = ap length (r .before .before .row .ensures) ∙ row-length (from .args .address)
+  width : length (r .before .before .row .result) ≡ 5
+  width = length-address (r .before .before .row .result) (r .before .before .row .ensures .1 .0)
 
   asks : (from .args .at ≤ n) × (n * length (r .before .before .row .result) + length (r .before .before .row .result) ≤ length words)
   asks = (omega (arith, r .before .before .before .count .ensures, from .pre .1), rw width (omega (arith, r .before .before .before .count .ensures, from .pre .2, sized)))
@@ -41,7 +42,7 @@ module _ (o : tie.After-insert) where
   abbrev first : List ℕ
   first = o .insert .last .0
 
-  first-sized : length first ≡ 139
+  first-sized : length first ≡ 395
   first-sized =
       let r = o .before in
       ap length (o .insert .ensures) ∙ length-inserted (n r) (from r .args .at) (r .before .before .row .result) (words r) (asks r .0) (asks r .1) ∙ sized r
@@ -56,7 +57,7 @@ insert-requires-2 : tie.Need-insert-requires-2
 insert-requires-2 c κs =
     let o = c .before .before .before .before in
     let r = o .before in
-    (asks r .0, omega (arith, ap length (part-all (first o)), length-drop 64 (first o), first-sized o, r .before .before .before .count .ensures, from r .pre .2))
+    (asks r .0, omega (arith, ap length (part-all (first o)), length-drop 320 (first o), first-sized o, r .before .before .before .count .ensures, from r .pre .2))
 
 module _ (d : tie.After-insert2) where
   abbrev one : tie.After-insert
@@ -68,11 +69,11 @@ module _ (d : tie.After-insert2) where
   abbrev second : List ℕ
   second = d .insert2 .last .0
 
-  second-sized : length second ≡ length (take (length (first one) - 64) (drop 64 (first one)))
+  second-sized : length second ≡ length (take (length (first one) - 320) (drop 320 (first one)))
   second-sized =
       ap length (d .insert2 .ensures)
-      ∙ length-inserted (n row) (from row .args .at) _ (take (length (first one) - 64) (drop 64 (first one))) (asks row .0)
-      (omega (arith, ap length (part-all (first one)), length-drop 64 (first one), first-sized one, row .before .before .before .count .ensures, from row .pre .2))
+      ∙ length-inserted (n row) (from row .args .at) _ (take (length (first one) - 320) (drop 320 (first one))) (asks row .0)
+      (omega (arith, ap length (part-all (first one)), length-drop 320 (first one), first-sized one, row .before .before .before .count .ensures, from row .pre .2))
 
 slice-write-t : tie.Need-slice-write-t
 slice-write-t c =
@@ -82,7 +83,7 @@ slice-write-t c =
 same-length : tie.Need-same-length
 same-length c =
     let d = c .before .before in
-    length-set (putMid 64 (length (first (one d)) - 64) (first (one d)) (second d)) 128 _ ∙ put-length (first (one d)) (second d) (omega (arith, first-sized (one d))) (second-sized d) ∙ first-sized (one d) ∙ sym (sized (row d))
+    length-set (putMid 320 (length (first (one d)) - 320) (first (one d)) (second d)) 384 _ ∙ put-length (first (one d)) (second d) (omega (arith, first-sized (one d))) (second-sized d) ∙ first-sized (one d) ∙ sym (sized (row d))
 
 returns : tie.Need-returns
 returns c =
@@ -91,8 +92,8 @@ returns c =
     let a = from r .args in
     let b = words r in
     let h = from r .pre .0 in
-    grown-words b (tableIn b .esi) (tableIn b .entries) (h .sound .short) (h .whole) (a .at) (a .address) (a .word) (from r .pre .1) (from r .pre .2) _ _ _ _
-    (r .before .before .before .count .ensures) (r .before .before .row .ensures) (one d .insert .ensures) (d .insert2 .ensures)
+    grown-words b (tableIn b .esi) (tableIn b .entries) (h .sound .short) (wide-addresses (tableIn b .entries) (h .sound .addresses)) (h .whole) (a .at) (addressRow (a .address)) (a .word) (ap length (sym (r .before .before .row .ensures .0)) ∙ width r) (from r .pre .1) (from r .pre .2) _ _ _ _
+    (r .before .before .before .count .ensures) (r .before .before .row .ensures .0) (one d .insert .ensures) (d .insert2 .ensures)
 
 pub grow-spec : {M : Type 1} → statement M
 grow-spec =

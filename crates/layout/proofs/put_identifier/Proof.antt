@@ -14,7 +14,7 @@ use Rattle.layout.proofs.put_identifier.Statement.{statement}
 use Rattle.layout.proofs.put_identifier.Tie as tie
 
 abbrev Inv-loop : tie.InvT-loop
-Inv-loop t₀ esi i₀ t i = (i ≤ 10) × (length t ≡ 139) × (t ≡ paste t₀ 129 esi i) × Octets (take i esi)
+Inv-loop t₀ esi i₀ t i = (i ≤ 10) × (length t ≡ 395) × (t ≡ paste t₀ 385 esi i) × Octets (take i esi)
 
 abbrev μ-loop : tie.MeasureT-loop
 μ-loop t₀ esi i₀ t i = 10 - i
@@ -23,7 +23,7 @@ loop-holds : tie.Need-loop-holds Inv-loop μ-loop
 loop-holds c =
     let start = c .before .before in
     let a = start .args in
-    (omega arith, start .pre .0, paste-zero (a .t .now) 129 (a .esi .now), none-octets)
+    (omega arith, start .pre .0, paste-zero (a .t .now) 385 (a .esi .now), none-octets)
 
 loop-again : tie.Need-loop-again Inv-loop μ-loop
 loop-again c =
@@ -34,7 +34,7 @@ loop-again c =
     let o = c .octet .ensures in (
       omega arith,
       length-set (turn .loop .t) _ _ ∙ v .1,
-      rw (add-one, o .0) (ap (λ (s : List ℕ). set s (129 + turn .loop .i) (getD (a .esi .now) (turn .loop .i) 0)) (v .2) ∙ paste-suc (a .t .now) 129 (a .esi .now) (turn .loop .i) 0 (omega arith) (omega arith)),
+      rw (add-one, o .0) (ap (λ (s : List ℕ). set s (385 + turn .loop .i) (getD (a .esi .now) (turn .loop .i) 0)) (v .2) ∙ paste-suc (a .t .now) 385 (a .esi .now) (turn .loop .i) 0 (omega arith) (omega arith)),
       every-next (λ (o : ℕ). o < 256) (a .esi .now) (turn .loop .i) 0 (omega arith) (rw (← o .0) (o .1)) (v .3),
     )
 

@@ -8,7 +8,7 @@ use borrow.Author.Needs.{needs}
 use borrow.Rule.Slice.PartMut.{putMid}
 use Rattle.rows.proofs.Rows.{length-removed}
 use Rattle.layout.specs.Words.{tableIn}
-use Rattle.layout.proofs.Words.{length-valid}
+use Rattle.layout.proofs.Words.{length-valid, wide-addresses}
 use Rattle.layout.proofs.Stores.{part-all, put-length, shrunk-words}
 use Rattle.layout.proofs.shrink.Statement.{statement}
 use Rattle.layout.proofs.shrink.Tie as tie
@@ -24,10 +24,10 @@ module _ (r : tie.After-remove-arg) where
   abbrev n : ℕ
   n = r .before .count .result
 
-  sized : length words ≡ 139
+  sized : length words ≡ 395
   sized = length-valid words (from .pre .0)
 
-  asks : (from .args .at < n) × (n * 1 ≤ length words)
+  asks : (from .args .at < n) × (n * 5 ≤ length words)
   asks = (omega (arith, r .before .count .ensures, from .pre .1), omega (arith, r .before .count .ensures, from .pre .0 .sound .short, sized))
 
 remove-requires : tie.Need-remove-requires
@@ -37,11 +37,11 @@ module _ (o : tie.After-remove) where
   abbrev first : List ℕ
   first = o .remove .last .0
 
-  first-sized : length first ≡ 139
-  first-sized = let r = o .before in ap length (o .remove .ensures) ∙ length-removed 1 (n r) (from r .args .at) (words r) (asks r .0) (asks r .1) ∙ sized r
+  first-sized : length first ≡ 395
+  first-sized = let r = o .before in ap length (o .remove .ensures) ∙ length-removed 5 (n r) (from r .args .at) (words r) (asks r .0) (asks r .1) ∙ sized r
 
-  part-asks : n (o .before) * 1 ≤ length (take (length first - 64) (drop 64 first))
-  part-asks = let r = o .before in omega (arith, ap length (part-all first), length-drop 64 first, first-sized, r .before .count .ensures, from r .pre .0 .sound .short)
+  part-asks : n (o .before) * 1 ≤ length (take (length first - 320) (drop 320 first))
+  part-asks = let r = o .before in omega (arith, ap length (part-all first), length-drop 320 first, first-sized, r .before .count .ensures, from r .pre .0 .sound .short)
 
 sub-remove : tie.Need-sub-remove
 sub-remove c = omega (arith, first-sized (c .before .before))
@@ -62,10 +62,10 @@ module _ (d : tie.After-remove2) where
   abbrev second : List ℕ
   second = d .remove2 .last .0
 
-  second-sized : length second ≡ length (take (length (first one) - 64) (drop 64 (first one)))
+  second-sized : length second ≡ length (take (length (first one) - 320) (drop 320 (first one)))
   second-sized =
       ap length (d .remove2 .ensures)
-      ∙ length-removed 1 (n called) (from called .args .at) (take (length (first one) - 64) (drop 64 (first one))) (asks called .0) (part-asks one)
+      ∙ length-removed 1 (n called) (from called .args .at) (take (length (first one) - 320) (drop 320 (first one))) (asks called .0) (part-asks one)
 
 sub-less : tie.Need-sub-less
 sub-less c = omega (arith, asks (called (c .before .before)) .0)
@@ -78,7 +78,7 @@ slice-write-t c =
 same-length : tie.Need-same-length
 same-length c =
     let d = c .before .before in
-    length-set (putMid 64 (length (first (one d)) - 64) (first (one d)) (second d)) 128 _ ∙ put-length (first (one d)) (second d) (omega (arith, first-sized (one d))) (second-sized d) ∙ first-sized (one d) ∙ sym (sized (called d))
+    length-set (putMid 320 (length (first (one d)) - 320) (first (one d)) (second d)) 384 _ ∙ put-length (first (one d)) (second d) (omega (arith, first-sized (one d))) (second-sized d) ∙ first-sized (one d) ∙ sym (sized (called d))
 
 returns : tie.Need-returns
 returns c =
@@ -86,7 +86,7 @@ returns c =
     let r = called d in
     let b = words r in
     let h = from r .pre .0 in
-    shrunk-words b (tableIn b .esi) (tableIn b .entries) (h .sound .short) (h .whole) (from r .args .at) (from r .pre .1) _ _ _ (r .before .count .ensures) (one d .remove .ensures) (d .remove2 .ensures)
+    shrunk-words b (tableIn b .esi) (tableIn b .entries) (h .sound .short) (wide-addresses (tableIn b .entries) (h .sound .addresses)) (h .whole) (from r .args .at) (from r .pre .1) _ _ _ (r .before .count .ensures) (one d .remove .ensures) (d .remove2 .ensures)
 
 pub shrink-spec : {M : Type 1} → statement M
 shrink-spec =
