@@ -11,7 +11,7 @@ use lib.ListN.{length, getD, drop, drop-of-length-le}
 use lib.Seq.{drop-cons}
 use lib.Pow.{pow-pos, split}
 use lib.Dec.{eqb}
-use lib.Bits.{bitXor, differ, xor-shifted, shifted-half, shifted-even}
+use lib.Bits.{bitXor, differ, xor-shifted, xor-mod, shifted-half, shifted-even}
 use Rattle.octets.specs.Octets.{octetsOf}
 use Rattle.hrw.specs.Crc.{polynomial, allOnes, crcBit, crcBits, crcOctet, crcOver, crc32Of}
 use Rattle.hrw.specs.Weight.{digestOver, digestOf, weightOf}
@@ -106,3 +106,16 @@ step-mod = linear-mod 1103515245 12345 (2 ^ 31)
 pub weightOf-reduced : (a d : ℕ) → weightOf a d ≡ step (bitXor (step a) d % 2 ^ 31) % 2 ^ 31
 unfolding weightOf
 weightOf-reduced a d = step-mod (bitXor (step a) d)
+
+-- only the low 31 bits of an address count
+pub weightOf-low : (a d : ℕ) → weightOf a d ≡ weightOf (a % 2 ^ 31) d
+weightOf-low a d =
+    weightOf-reduced a d
+    ∙ ap (λ (n : ℕ). step n % 2 ^ 31) (xor-mod (step a) d 31 ∙ ap (λ (n : ℕ). bitXor n (d % 2 ^ 31)) (step-mod a) ∙ sym (xor-mod (step (a % 2 ^ 31)) d 31))
+    ∙ sym (weightOf-reduced (a % 2 ^ 31) d)
+
+-- so 32 of them are enough
+pub weightOf-word : (a d : ℕ) → weightOf (a % 2 ^ 32) d ≡ weightOf a d
+weightOf-word a d =
+    let m : a % 2 ^ 32 % 2 ^ 31 ≡ a % 2 ^ 31 = omega arith in
+    weightOf-low (a % 2 ^ 32) d ∙ ap (λ (n : ℕ). weightOf n d) m ∙ sym (weightOf-low a d)

@@ -1,13 +1,13 @@
 -- The set of places whose address is on a ready list, address by address, and the candidate set. Assumes nothing.
-use Prim.Native.Nat.{ℕ, suc, _+_, _≤_, _<_, min}
+use Prim.Native.Nat.{ℕ, suc, _+_, _*_, _/_, _≤_, _<_, min}
 use native.Mathlib.Nat.{le-of-suc-le-suc, not-suc-le-zero}
 use native.Mathlib.Numerals.{add-one}
 use native.Mathlib.Omega.{arith}
 use mathlib.Core.Path.{_≡_, refl, ap, ap₂, _∙_, sym}
 use mathlib.Core.Bool.{Bool, true, false, _||_, or-assoc, or-false, or-true}
 use mathlib.Core.List.{List, [], _∷_, _++_, map}
-use lib.ListN.{length, getD, set, take, replicate, length-map}
-use lib.Seq.{take-suc}
+use lib.ListN.{length, getD, set, take, drop, replicate, length-map}
+use lib.Seq.{take-suc, getD-take, getD-drop}
 use lib.Dec.{eqb}
 use borrow.Author.Tests.{eq-eqb, ne-eqb, eqb-false, lt-ltb, le-ltb}
 use Rattle.lists.proofs.Bools.{or-left, or-right}
@@ -15,13 +15,15 @@ use Rattle.lists.proofs.Numbers.{either}
 use Rattle.address.specs.Address.{addressKey}
 use Rattle.keyed.specs.Keyed.{Rising, has, rank}
 use Rattle.keyed.proofs.Keyed.{Present, present-of, has-below}
-use Rattle.rows.specs.Rows.{foundIn}
+use Rattle.rows.specs.Rows.{rowsIn, foundIn}
+use Rattle.rows.proofs.Rows.{rows-length, rows-at}
+use Rattle.lists.proofs.Lists.{getD-map-in}
 use Rattle.rows.specs.declared.Found.the-variants.{At, Missing}
 use Rattle.rows.proofs.Places.{found-at, found-missing, at-lt}
 use Rattle.layout.specs.Table.{Entry, entryKey, noEntry}
 use Rattle.places.specs.Places.{setOf, withPlace}
 use Rattle.places.proofs.Flags.{withPlace-set}
-use Rattle.ready.specs.Ready.{onList, eligible, candidateSet}
+use Rattle.ready.specs.Ready.{listedIn, readyIn, onList, eligible, candidateSet}
 
 -- one key more on a list of flags
 module _ {A : Type 0} (key : A → ℕ) (f : A → Bool) (k : ℕ) where
@@ -44,18 +46,52 @@ module _ {A : Type 0} (key : A → ℕ) (f : A → Bool) (k : ℕ) where
       (λ p. rw (le-ltb (key x) k p) (λ q.
       rw (eq-eqb k (key x) (sym (q .1)), or-true (f x)) (ap (true ∷_) (mark-absent l (has-below key k l (suc (key x)) (r .1) (omega (arith, q .1)))))))
 
+-- THE ADDRESSES that a ready list names
+pub length-ready : (w : List ℕ) → length (readyIn w) ≡ length w / 5
+unfolding readyIn
+length-ready w = length-map (rowsIn 5 (length w / 5) w) listedIn ∙ rows-length 5 (length w / 5) w
+
+pub ready-at : (w : List ℕ) (i : ℕ) → i < length w / 5 → getD (readyIn w) i [] ≡ listedIn (take 5 (drop (i * 5) w))
+unfolding readyIn
+ready-at w i h =
+    getD-map-in listedIn (rowsIn 5 (length w / 5) w) i [] [] (omega (arith, rows-length 5 (length w / 5) w))
+    ∙ ap listedIn (rows-at 5 (length w / 5) w i h)
+
+-- the row i, word by word
+module _ (w : List ℕ) (i : ℕ) where
+  abbrev row : List ℕ
+  row = take 5 (drop (i * 5) w)
+
+  word : (j : ℕ) → j < 5 → getD row j 0 ≡ getD w (i * 5 + j) 0
+  word j h = getD-take 5 (drop (i * 5) w) j 0 h ∙ getD-drop (i * 5) w j 0
+
+  first : getD row 0 0 ≡ getD w (i * 5) 0
+  first = let n : i * 5 + 0 ≡ i * 5 = omega arith in word 0 (omega arith) ∙ ap (λ (m : ℕ). getD w m 0) n
+
+  pub listed-four : getD w (i * 5) 0 ≡ 4 → 4 ∷ getD w (i * 5 + 1) 0 ∷ 0 ∷ 0 ∷ 0 ∷ [] ≡ listedIn row
+  unfolding listedIn
+  listed-four e = rw (first, e, word 1 (omega arith))
+
+  pub listed-six : getD w (i * 5) 0 ≡ 6 → 6 ∷ getD w (i * 5 + 1) 0 ∷ getD w (i * 5 + 2) 0 ∷ getD w (i * 5 + 3) 0 ∷ getD w (i * 5 + 4) 0 ∷ [] ≡ listedIn row
+  unfolding listedIn
+  listed-six e = rw (first, e, word 1 (omega arith), word 2 (omega arith), word 3 (omega arith), word 4 (omega arith))
+
+  pub listed-neither : (getD w (i * 5) 0 ≡ 4 → ⊥) → (getD w (i * 5) 0 ≡ 6 → ⊥) → 4 ∷ 0 ∷ 0 ∷ 0 ∷ 0 ∷ [] ≡ listedIn row
+  unfolding listedIn
+  listed-neither m n = rw (first, ne-eqb _ 4 m, ne-eqb _ 6 n)
+
 -- THE READY SET of entries
-abbrev pub flags : List ℕ → List Entry → List Bool
+abbrev pub flags : List (List ℕ) → List Entry → List Bool
 flags rs l = map (λ (e : Entry). onList rs (e .address)) l
 
-on-snoc : (rs : List ℕ) (b a : ℕ) → onList (rs ++ b ∷ []) a ≡ (onList rs a || eqb (addressKey b) (addressKey a))
+on-snoc : (rs : List (List ℕ)) (b a : List ℕ) → onList (rs ++ b ∷ []) a ≡ (onList rs a || eqb (addressKey b) (addressKey a))
 unfolding onList
 on-snoc [] b a = or-false (eqb (addressKey b) (addressKey a))
 on-snoc (r ∷ rs) b a =
     ap (λ (x : Bool). eqb (addressKey r) (addressKey a) || x) (on-snoc rs b a)
     ∙ sym (or-assoc (eqb (addressKey r) (addressKey a)) (onList rs a) (eqb (addressKey b) (addressKey a)))
 
-flags-snoc : (rs : List ℕ) (b : ℕ) (l : List Entry) → flags (rs ++ b ∷ []) l ≡ map (marked entryKey (λ (e : Entry). onList rs (e .address)) (addressKey b)) l
+flags-snoc : (rs : List (List ℕ)) (b : List ℕ) (l : List Entry) → flags (rs ++ b ∷ []) l ≡ map (marked entryKey (λ (e : Entry). onList rs (e .address)) (addressKey b)) l
 flags-snoc rs b [] = refl
 flags-snoc rs b (e ∷ l) = ap₂ (λ (x : Bool) (m : List Bool). x ∷ m) (on-snoc rs b (e .address)) (flags-snoc rs b l)
 
@@ -64,15 +100,15 @@ unfolding setOf onList
 ready-none [] = refl
 ready-none (e ∷ l) = rw (← ready-none l)
 
-module _ (es : List Entry) (short : length es ≤ 64) (rising : Rising entryKey 1 es) (ready : List ℕ) (i : ℕ) (h : i < length ready) (s : ℕ) (q : s ≡ setOf (flags (take i ready) es)) where
+module _ (es : List Entry) (short : length es ≤ 64) (rising : Rising entryKey 1 es) (ready : List (List ℕ)) (i : ℕ) (h : i < length ready) (s : ℕ) (q : s ≡ setOf (flags (take i ready) es)) where
   abbrev k : ℕ
-  k = addressKey (getD ready i 0)
+  k = addressKey (getD ready i [])
 
   abbrev before : Entry → Bool
   before e = onList (take i ready) (e .address)
 
   next : flags (take (i + 1) ready) es ≡ map (marked entryKey before k) es
-  next = rw (add-one, take-suc ready i 0 h) (flags-snoc (take i ready) (getD ready i 0) es)
+  next = rw (add-one, take-suc ready i [] h) (flags-snoc (take i ready) (getD ready i []) es)
 
   pub ready-found : (j : ℕ) → foundIn entryKey k es ≡ At j → withPlace s j ≡ setOf (flags (take (i + 1) ready) es)
   ready-found j f =
@@ -85,11 +121,11 @@ module _ (es : List Entry) (short : length es ≤ 64) (rising : Rising entryKey 
   ready-stranger j f = q ∙ ap setOf (sym (next ∙ mark-absent entryKey before k es (found-missing entryKey k es j f .0)))
 
 -- THE CANDIDATE SET
-pub set-ready : (ready : List ℕ) (l : List Entry) (ac : Bool) → ac ≡ true → setOf (flags ready l) ≡ candidateSet ac ready l
+pub set-ready : (ready : List (List ℕ)) (l : List Entry) (ac : Bool) → ac ≡ true → setOf (flags ready l) ≡ candidateSet ac ready l
 unfolding candidateSet eligible
 set-ready ready l ac b = rw b
 
-pub set-all : (ready : List ℕ) (l : List Entry) (ac : Bool) (n : ℕ) → ac ≡ false → n ≡ length l → length l ≤ 64 → setOf (replicate (min n 64) true) ≡ candidateSet ac ready l
+pub set-all : (ready : List (List ℕ)) (l : List Entry) (ac : Bool) (n : ℕ) → ac ≡ false → n ≡ length l → length l ≤ 64 → setOf (replicate (min n 64) true) ≡ candidateSet ac ready l
 unfolding candidateSet eligible
 set-all ready l ac n b e h =
     let m : min n 64 ≡ length l = omega arith in

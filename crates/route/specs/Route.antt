@@ -1,21 +1,26 @@
--- The Ethernet Segment route (document 01, "The route"): 25 octets. 0 is the type, 4; 1 the length of the rest, 23; 2 to 9 the route distinguisher;
--- 10 to 19 the segment identifier (ESI); 20 the address length in bits, 32; 21 to 24 the originator's address, high octet first.
---   routeDistinguisher s, routeEsi s, routeAddress s  == the three fields of the route s
+-- The Ethernet Segment route (document 01, "The route"; document 02, M-105). 0 is the type, 4; 1 the length of the rest; 2 to 9 the route distinguisher; 10 to
+-- 19 the segment identifier (ESI); 20 the address length in bits, 32 or 128; then the originator's address, high octet first: 21 to 24, or 21 to 36. So a
+-- route has 25 octets or 37.
+--   totalOf b                 == how many octets a route has whose address has b bits: 37 for 128, else 25
+--   routeTotal s              == how many octets the route s should have
+--   routeDistinguisher s, routeEsi s, routeOriginator s  == the three fields of the route s
+--   routeAddress s            == the originator's address as a row of words, which is what an address is in every definition
 --   routeNumber s             == 0, or the number of the first check that refuses the route s
---   offsetOf n s               == the offset that the number n speaks of in the route s (document 02, M-103)
---   routeOffset s              == the offset that the route's number speaks of
+--   offsetOf n s              == the offset that the number n speaks of in the route s (document 02, M-103)
+--   routeOffset s             == the offset that the route's number speaks of
 --   Fault s n p               == what the number n and the offset p tell of the route s: what stands at p is wrong
 --   checkedNumber c           == document 01's number for each case of the check's answer
---   checkedOffset c            == the offset for each case: 0 with an address
---   checkedAddress c          == document 01's value for each case: the originator's address, or zero with a refusal
---   routeValue s              == document 01's value for the route s: its address where it is accepted, else zero
+--   checkedOffset c           == the offset for each case: 0 with an address
+--   checkedAddress c          == document 01's value for each case: the originator's address, or none with a refusal
+--   routeValue s              == document 01's value for the route s: its address where it is accepted, else none
 --   routeChecked s            == the check's answer
---   readAs n p d e a          == the reader's answer with these fields
+--   readAs n p d e f a        == the reader's answer with these fields
 --   readRoute s               == the reader's answer
---   routeOctets d e a         == the 25 octets of the route with these three fields
---   writeRouteNumber d e a n  == the writer's answer, for a buffer of n octets
---   routeWritten b d e a      == what a buffer holds after the writer, where it held b
-use Prim.Native.Nat.{ℕ}
+--   bitsOf r                  == how many bits the address r has in a route
+--   routeOctets d e r         == the octets of the route with these three fields
+--   writeRouteNumber d e r n  == the writer's answer, for a buffer of n octets
+--   routeWritten b d e r      == what a buffer holds after the writer, where it held b
+use Prim.Native.Nat.{ℕ, _-_, _/_}
 use mathlib.Core.Path.{_≡_}
 use mathlib.Core.Bool.{true, cond, not, _||_}
 use mathlib.Core.List.{List, [], _∷_, _++_}
@@ -23,7 +28,9 @@ use lib.ListN.{length, getD, take, drop, replicate}
 use lib.Dec.{ltb, eqb}
 use Rattle.lists.specs.Checks.{firstRefusal}
 use Rattle.octets.specs.Octets.{numberOf, octetsOf}
-use Rattle.address.specs.Address.{isZero}
+use Rattle.address.specs.Address.{addressRow, familyOf, octetsOfAddress, isZero}
+use Rattle.address.specs.declared.Address.{Address}
+use Rattle.address.specs.declared.Family.the-variants.{V4, V6}
 use Rattle.esi.specs.Reserved.{reserved}
 use Rattle.refusals.specs.Refusals.{wrongLength, wrongType, wrongAddressLength, esiReserved, addressZero, bufferShort}
 use Rattle.route.specs.declared.Checked.{Checked}
@@ -36,8 +43,24 @@ routeDistinguisher s = take 8 (drop 2 s)
 unfoldable pub routeEsi : List ℕ → List ℕ
 routeEsi s = take 10 (drop 10 s)
 
-unfoldable pub routeAddress : List ℕ → ℕ
-routeAddress s = numberOf (take 4 (drop 21 s))
+unfoldable pub totalOf : ℕ → ℕ
+totalOf b = cond (eqb b 128) 37 25
+
+abbrev pub routeTotal : List ℕ → ℕ
+routeTotal s = totalOf (getD s 20 0)
+
+-- the word at offset i
+abbrev pub wordAt : ℕ → List ℕ → ℕ
+wordAt i s = numberOf (take 4 (drop i s))
+
+unfoldable pub routeOriginator : List ℕ → Address
+routeOriginator s =
+    cond (eqb (getD s 20 0) 128)
+    (record { family = V6; w0 = wordAt 21 s; w1 = wordAt 25 s; w2 = wordAt 29 s; w3 = wordAt 33 s })
+    (record { family = V4; w0 = wordAt 21 s; w1 = 0; w2 = 0; w3 = 0 })
+
+unfoldable pub routeAddress : List ℕ → List ℕ
+routeAddress s = addressRow (routeOriginator s)
 
 -- the checks, in their order
 unfoldable pub routeNumber : List ℕ → ℕ
@@ -45,8 +68,8 @@ routeNumber s =
     firstRefusal (
     (ltb (length s) 21, wrongLength)
     ∷ (not (eqb (getD s 0 0) 4), wrongType)
-    ∷ (not (eqb (getD s 20 0) 32), wrongAddressLength)
-    ∷ (not (eqb (length s) 25) || not (eqb (getD s 1 0) 23), wrongLength)
+    ∷ (not (eqb (getD s 20 0) 32 || eqb (getD s 20 0) 128), wrongAddressLength)
+    ∷ (not (eqb (length s) (routeTotal s)) || not (eqb (getD s 1 0) (routeTotal s - 2)), wrongLength)
     ∷ (reserved (routeEsi s), esiReserved)
     ∷ (isZero (routeAddress s), addressZero)
     ∷ []
@@ -55,7 +78,7 @@ routeNumber s =
 -- for 1 the number of octets where that is wrong, else 1, the length octet; 0 for 2, 20 for 3, 10 for 4, 21 for 6; 0 if accepted
 unfoldable pub offsetOf : ℕ → List ℕ → ℕ
 offsetOf n s =
-    cond (eqb n wrongLength) (cond (eqb (length s) 25) 1 (length s))
+    cond (eqb n wrongLength) (cond (eqb (length s) (routeTotal s)) 1 (length s))
     (cond (eqb n wrongAddressLength) 20
     (cond (eqb n esiReserved) 10
     (cond (eqb n addressZero) 21
@@ -67,12 +90,12 @@ routeOffset s = offsetOf (routeNumber s) s
 -- what the offset tells the person who looks at the octets: one case for each row of the rule
 pub data Fault (s : List ℕ) (n p : ℕ) : Type 0 where
   none : n ≡ 0 → p ≡ 0 → Fault s n p
-  total : n ≡ wrongLength → p ≡ length s → (length s ≡ 25 → ⊥) → Fault s n p
-  lengthOctet : n ≡ wrongLength → p ≡ 1 → length s ≡ 25 → (getD s p 0 ≡ 23 → ⊥) → Fault s n p
+  total : n ≡ wrongLength → p ≡ length s → (length s ≡ routeTotal s → ⊥) → Fault s n p
+  lengthOctet : n ≡ wrongLength → p ≡ 1 → length s ≡ routeTotal s → (getD s p 0 ≡ routeTotal s - 2 → ⊥) → Fault s n p
   type : n ≡ wrongType → p ≡ 0 → (getD s p 0 ≡ 4 → ⊥) → Fault s n p
-  bits : n ≡ wrongAddressLength → p ≡ 20 → (getD s p 0 ≡ 32 → ⊥) → Fault s n p
+  bits : n ≡ wrongAddressLength → p ≡ 20 → (getD s p 0 ≡ 32 → ⊥) → (getD s p 0 ≡ 128 → ⊥) → Fault s n p
   identifier : n ≡ esiReserved → p ≡ 10 → reserved (take 10 (drop p s)) ≡ true → Fault s n p
-  zeroAddress : n ≡ addressZero → p ≡ 21 → isZero (numberOf (take 4 (drop p s))) ≡ true → Fault s n p
+  zeroAddress : n ≡ addressZero → p ≡ 21 → isZero (routeAddress s) ≡ true → Fault s n p
 
 abbrev pub checkedNumber : Checked → ℕ
 checkedNumber (Originator a) = 0
@@ -82,39 +105,42 @@ abbrev pub checkedOffset : Checked → ℕ
 checkedOffset (Originator a) = 0
 checkedOffset (Refused n p) = p
 
-abbrev pub checkedAddress : Checked → ℕ
-checkedAddress (Originator a) = a
-checkedAddress (Refused n p) = 0
+abbrev pub checkedAddress : Checked → List ℕ
+checkedAddress (Originator a) = addressRow a
+checkedAddress (Refused n p) = []
 
-unfoldable pub routeValue : List ℕ → ℕ
-routeValue s = cond (eqb (routeNumber s) 0) (routeAddress s) 0
+unfoldable pub routeValue : List ℕ → List ℕ
+routeValue s = cond (eqb (routeNumber s) 0) (routeAddress s) []
 
 unfoldable pub routeChecked : List ℕ → Checked
-routeChecked s = cond (eqb (routeNumber s) 0) (Originator (routeAddress s)) (Refused (routeNumber s) (routeOffset s))
+routeChecked s = cond (eqb (routeNumber s) 0) (Originator (routeOriginator s)) (Refused (routeNumber s) (routeOffset s))
 
 -- a refusal's other numbers are zero, but for the offset
-abbrev pub readAs : ℕ → ℕ → List ℕ → List ℕ → ℕ → RouteRead
-readAs n p d e a = record { number = n; offset = p; distinguisher = d; esi = e; address = a }
+abbrev pub readAs : ℕ → ℕ → List ℕ → List ℕ → ℕ → List ℕ → RouteRead
+readAs n p d e f a = record { number = n; offset = p; distinguisher = d; esi = e; family = f; address = a }
 
 unfoldable pub readRoute : List ℕ → RouteRead
 readRoute s =
     cond (eqb (routeNumber s) 0)
-    (readAs 0 0 (routeDistinguisher s) (routeEsi s) (routeAddress s))
-    (readAs (routeNumber s) (routeOffset s) (replicate 8 0) (replicate 10 0) 0)
+    (readAs 0 0 (routeDistinguisher s) (routeEsi s) (familyOf (routeAddress s)) (octetsOfAddress (routeAddress s)))
+    (readAs (routeNumber s) (routeOffset s) (replicate 8 0) (replicate 10 0) 0 (replicate 16 0))
 
 -- WRITING
-unfoldable pub routeOctets : List ℕ → List ℕ → ℕ → List ℕ
-routeOctets d e a = 4 ∷ 23 ∷ d ++ (e ++ 32 ∷ octetsOf 4 a)
+unfoldable pub bitsOf : List ℕ → ℕ
+bitsOf r = cond (eqb (familyOf r) 6) 128 32
 
-unfoldable pub writeRouteNumber : List ℕ → List ℕ → ℕ → ℕ → ℕ
-writeRouteNumber d e a n =
+unfoldable pub routeOctets : List ℕ → List ℕ → List ℕ → List ℕ
+routeOctets d e r = 4 ∷ totalOf (bitsOf r) - 2 ∷ d ++ (e ++ bitsOf r ∷ take (bitsOf r / 8) (octetsOfAddress r))
+
+unfoldable pub writeRouteNumber : List ℕ → List ℕ → List ℕ → ℕ → ℕ
+writeRouteNumber d e r n =
     firstRefusal (
     (not (eqb (length d) 8), wrongLength)
     ∷ (reserved e, esiReserved)
-    ∷ (isZero a, addressZero)
-    ∷ (ltb n 25, bufferShort)
+    ∷ (isZero r, addressZero)
+    ∷ (ltb n (totalOf (bitsOf r)), bufferShort)
     ∷ []
     )
 
-unfoldable pub routeWritten : List ℕ → List ℕ → List ℕ → ℕ → List ℕ
-routeWritten b d e a = cond (eqb (writeRouteNumber d e a (length b)) 0) (routeOctets d e a ++ drop 25 b) b
+unfoldable pub routeWritten : List ℕ → List ℕ → List ℕ → List ℕ → List ℕ
+routeWritten b d e r = cond (eqb (writeRouteNumber d e r (length b)) 0) (routeOctets d e r ++ drop (totalOf (bitsOf r)) b) b

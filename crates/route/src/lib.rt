@@ -1,5 +1,6 @@
 // The Ethernet Segment route of RFC 7432: checking one, reading its fields, and writing one.
 use address::Address;
+use address::Family;
 use refusals::ADDRESS_ZERO;
 use refusals::BUFFER_SHORT;
 use refusals::ESI_RESERVED;
@@ -8,7 +9,12 @@ use refusals::WRONG_LENGTH;
 use refusals::WRONG_TYPE;
 ghost use mathlib.Core.Path.{_≡_};
 ghost use lib.ListN.{length, take};
+ghost use Rattle.address.specs.Address.{addressRow, familyOf, octetsOfAddress};
 ghost use Rattle.route.specs.Route.{
+  totalOf,
+  routeTotal,
+  routeOriginator,
+  bitsOf,
   Fault,
   checkedNumber,
   checkedOffset,
@@ -23,22 +29,20 @@ ghost use Rattle.route.specs.Route.{
   routeWritten,
 };
 
-// How many octets a route has.
-const ROUTE_LENGTH: usize = 25;
-
 // The answer of the check: the originator's address, or a refusal number and the offset that it speaks of.
 pub enum Checked {
     Originator(Address),
     Refused(u8, usize),
 }
 
-// The answer of the reader: 0, offset 0 and the fields, or a refusal number, its offset and zeros.
+// The answer of the reader: 0, offset 0 and the fields, or a refusal number, its offset and zeros. An IPv4 address is in the first four octets, then zeros.
 pub struct RouteRead {
     pub number: u8,
     pub offset: usize,
     pub distinguisher: [u8; 8],
     pub esi: [u8; 10],
-    pub address: Address,
+    pub family: u8,
+    pub address: [u8; 16],
 }
 
 // The number of a check's answer: 0 for an address.
@@ -61,10 +65,47 @@ pub fn offset(c: Checked) -> usize
     }
 }
 
-// Checks a route, in document 01's order: fewer than 21 octets, 1; type not 4, 2; address length not 32, 3; not 25 octets or length octet
-// not 23, 1; identifier reserved, 4; address zero, 6. Otherwise the answer is the originator's address. With a refusal comes the offset of what is
+// How many octets a route has whose address has so many bits.
+fn total(bits: u8) -> usize
+    ensures { λ r. ⌜ r ≡ totalOf bits ⌝ }
+{
+    if bits == 128 {
+        return 37;
+    }
+    25
+}
+
+// The originator's address in a route of the right length.
+fn originator(s: &[u8]) -> Address
+    requires { ⌜ length (now s) ≡ routeTotal (now s) ⌝ }
+    ensures { λ r. ⌜ r ≡ routeOriginator (now (s .entry)) ⌝ }
+{
+    let w0 = octets::u32_of(s[21], s[22], s[23], s[24]);
+    if s[20] != 128 {
+        return Address {
+            family: Family::V4,
+            w0: w0,
+            w1: 0,
+            w2: 0,
+            w3: 0,
+        };
+    }
+    let w1 = octets::u32_of(s[25], s[26], s[27], s[28]);
+    let w2 = octets::u32_of(s[29], s[30], s[31], s[32]);
+    let w3 = octets::u32_of(s[33], s[34], s[35], s[36]);
+    Address {
+        family: Family::V6,
+        w0: w0,
+        w1: w1,
+        w2: w2,
+        w3: w3,
+    }
+}
+
+// Checks a route, in document 01's order: fewer than 21 octets, 1; type not 4, 2; address length neither 32 nor 128, 3; not 25 (37) octets or length octet
+// not 23 (35), 1; identifier reserved, 4; address zero, 6. Otherwise the answer is the originator's address. With a refusal comes the offset of what is
 // wrong: for 1 the number of octets where that is wrong, else the length octet; 0 for 2, 20 for 3, 10 for 4, 21 for 6. By the three definitions of
-// what each case says, the answer's number, offset and address are document 01's: with a refusal the address is zero.
+// what each case says, the answer's number, offset and address are document 01's: with a refusal there is no address.
 pub fn check(s: &[u8]) -> Checked
     ensures { λ r. ⌜ r ≡ routeChecked (now (s .entry)) ⌝ }
     ensures numbered { λ r. ⌜ checkedNumber r ≡ routeNumber (now (s .entry)) ⌝ }
@@ -78,19 +119,20 @@ pub fn check(s: &[u8]) -> Checked
     if s[0] != 4 {
         return Checked::Refused(WRONG_TYPE, 0);
     }
-    if s[20] != 32 {
+    if s[20] != 32 && s[20] != 128 {
         return Checked::Refused(WRONG_ADDRESS_LENGTH, 20);
     }
-    if s.len() != ROUTE_LENGTH {
+    let wanted = total(s[20]);
+    if s.len() != wanted {
         return Checked::Refused(WRONG_LENGTH, s.len());
     }
-    if s[1] != 23 {
+    if s[1] as usize != wanted - 2 {
         return Checked::Refused(WRONG_LENGTH, 1);
     }
     if esi::is_reserved(&s[10..20]) {
         return Checked::Refused(ESI_RESERVED, 10);
     }
-    let a = octets::u32_of(s[21], s[22], s[23], s[24]);
+    let a = originator(s);
     if address::is_zero(a) {
         return Checked::Refused(ADDRESS_ZERO, 21);
     }
@@ -113,26 +155,41 @@ pub fn read(s: &[u8]) -> RouteRead
             offset: p,
             distinguisher: d,
             esi: e,
-            address: 0,
+            family: 0,
+            address: [0u8; 16],
         };
     };
     octets::store(&mut d, 0, &s[2..10]);
     octets::store(&mut e, 0, &s[10..20]);
+    let row = address::row(a);
+    let o = address::octets(row[1], row[2], row[3], row[4]);
     RouteRead {
         number: 0,
         offset: 0,
         distinguisher: d,
         esi: e,
-        address: a,
+        family: row[0] as u8,
+        address: o,
     }
 }
 
-// Writes a route into the first 25 octets of a buffer: 1 for a distinguisher that is not eight octets, 4 for a reserved identifier, 6 for
-// address zero, 14 for a buffer under 25 octets; these leave the buffer as it is. Reading what was written gives the three back.
+// How many bits an address has in a route.
+fn bits(a: Address) -> u8
+    ensures { λ r. ⌜ r ≡ bitsOf (addressRow a) ⌝ }
+{
+    let family = a.family;
+    match family {
+        Family::V4 => 32,
+        Family::V6 => 128,
+    }
+}
+
+// Writes a route into the first 25 octets of a buffer, or 37 for an IPv6 address: 1 for a distinguisher that is not eight octets, 4 for a reserved
+// identifier, 6 for address zero, 14 for a buffer of fewer octets; these leave the buffer as it is. Reading what was written gives the three back.
 pub fn write(buf: &mut [u8], distinguisher: &[u8], esi: &[u8], address: Address) -> u8
-    ensures number { λ r. ⌜ r ≡ writeRouteNumber (now (distinguisher .entry)) (now (esi .entry)) address (length (now (buf .entry))) ⌝ }
-    ensures written { λ _. ⌜ now (buf .exit) ≡ routeWritten (now (buf .entry)) (now (distinguisher .entry)) (now (esi .entry)) address ⌝ }
-    ensures reads { λ r. ⌜ (r ≡ 0 → readRoute (take 25 (now (buf .exit))) ≡ readAs 0 0 (now (distinguisher .entry)) (now (esi .entry)) address) ⌝ }
+    ensures number { λ r. ⌜ r ≡ writeRouteNumber (now (distinguisher .entry)) (now (esi .entry)) (addressRow address) (length (now (buf .entry))) ⌝ }
+    ensures written { λ _. ⌜ now (buf .exit) ≡ routeWritten (now (buf .entry)) (now (distinguisher .entry)) (now (esi .entry)) (addressRow address) ⌝ }
+    ensures reads { λ r. ⌜ (r ≡ 0 → readRoute (take (totalOf (bitsOf (addressRow address))) (now (buf .exit))) ≡ readAs 0 0 (now (distinguisher .entry)) (now (esi .entry)) (familyOf (addressRow address)) (octetsOfAddress (addressRow address))) ⌝ }
 {
     if distinguisher.len() != 8 {
         return WRONG_LENGTH;
@@ -143,16 +200,18 @@ pub fn write(buf: &mut [u8], distinguisher: &[u8], esi: &[u8], address: Address)
     if address::is_zero(address) {
         return ADDRESS_ZERO;
     }
-    if buf.len() < ROUTE_LENGTH {
+    let length = bits(address);
+    let wanted = total(length);
+    if buf.len() < wanted {
         return BUFFER_SHORT;
     }
-    let start = [4, 23];
-    let bits = [32];
-    let a = octets::of_u32(address);
+    let start = [4, (wanted - 2) as u8];
+    let bits = [length];
+    let a = address::octets(address.w0, address.w1, address.w2, address.w3);
     octets::store(buf, 0, &start);
     octets::store(buf, 2, distinguisher);
     octets::store(buf, 10, esi);
     octets::store(buf, 20, &bits);
-    octets::store(buf, 21, &a);
+    octets::store(buf, 21, &a[0..wanted - 21]);
     0
 }

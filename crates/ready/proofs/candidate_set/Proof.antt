@@ -3,6 +3,7 @@ use mathlib.Core.Path.{_∙_}
 use borrow.Author.Needs.{needs}
 use denote.Ref.{now}
 use Rattle.layout.specs.Words.{tableIn}
+use Rattle.ready.specs.Ready.{readyIn}
 use Rattle.ready.proofs.Laws.{set-ready, set-all}
 use Rattle.ready.proofs.candidate_set.Statement.{statement}
 use Rattle.ready.proofs.candidate_set.Tie as tie
@@ -10,12 +11,12 @@ use Rattle.ready.proofs.candidate_set.Tie as tie
 returns : tie.Need-returns
 returns c =
     let start = c .before .before .before .before in
-    c .ready-set .ensures ∙ set-ready (now (start .args .ready)) (tableIn (now (start .args .t)) .entries) _ (c .before .if1 .taken)
+    c .ready-set .ensures ∙ set-ready (readyIn (now (start .args .ready))) (tableIn (now (start .args .t)) .entries) _ (c .before .if1 .taken)
 
 returns-2 : tie.Need-returns-2
 returns-2 c =
     let start = c .before .before .before .before .before in
-    c .below .ensures ∙ set-all (now (start .args .ready)) (tableIn (now (start .args .t)) .entries) _ _ (c .before .before .if1 .left) (c .before .count .ensures) (start .pre .sound .short)
+    c .below .ensures ∙ set-all (readyIn (now (start .args .ready))) (tableIn (now (start .args .t)) .entries) _ _ (c .before .before .if1 .left) (c .before .count .ensures) (start .pre .sound .short)
 
 pub candidate-set-spec : {M : Type 1} → statement M
 candidate-set-spec = tie.close (tie.spec (λ c κs. search needs) returns (λ c κs. search needs) (λ c κs. search needs) returns-2)
