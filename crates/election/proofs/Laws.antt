@@ -26,8 +26,8 @@ use Rattle.ready.specs.Ready.{eligible, candidates, candidateSet}
 use Rattle.winner.specs.Winner.{better, elected, entriesAt}
 use Rattle.winner.proofs.Orders.{order-better, better-any}
 use Rattle.winner.proofs.Laws.{places-rising}
-use Rattle.election.specs.Election.{refusedAnswer, reservedTag, candidatesOf, answerOf, electOf, NoneNamed, Forwarder}
-use Rattle.election.specs.Steps.{digestUnder, namedOf, answerFor}
+use Rattle.election.specs.Election.{refusedAnswer, reservedTag, candidatesOf, namedAnswer, answerOf, electOf, NoneNamed, Forwarder}
+use Rattle.election.specs.Steps.{digestUnder, answerFor}
 use Rattle.election.specs.declared.Answer.{Answer}
 
 ones-none : 0 ≡ ones 0
@@ -45,7 +45,7 @@ elected-under a tag i cs = go (eqb a 1) refl
     go false e = ap (λ (B : Entry → Entry → Bool). cond (eqb a 0) (getD cs (tag % length cs) noEntry) (bestOf B noEntry cs)) (better-any a 0 (digestOf tag i) e)
 
 -- NONE is named exactly if no candidate is eligible
-none-named : (i : List ℕ) (l : List Entry) (tag : ℕ) (ready : List ℕ) → NoneNamed l tag ready (electOf i l tag ready)
+none-named : (i : List ℕ) (l : List Entry) (tag : ℕ) (ready : List (List ℕ)) → NoneNamed l tag ready (electOf i l tag ready)
 unfolding electOf answerOf
 none-named i l tag ready = go (reservedTag tag) refl (ltb 64 (length ready)) refl (eqb (length (candidatesOf l ready)) 0) refl _ refl
   where
@@ -61,8 +61,8 @@ none-named i l tag ready = go (reservedTag tag) refl (ltb 64 (length ready)) ref
     go false p false q false e r z = (λ h. absurd (omega (arith, h, z)), λ f k n. absurd (eqb-false (length cs) 0 e (ap length n)))
 
 -- an accepted answer names the elected candidate
-accepted-names : (i : List ℕ) (l : List Entry) (tag : ℕ) (ready : List ℕ) → electOf i l tag ready .number ≡ 0
-    → (length (candidatesOf l ready) ≡ 0 → ⊥) × (electOf i l tag ready .address ≡ elected (inUse l .algorithm) tag (digestOf tag i) (candidatesOf l ready) .address)
+accepted-names : (i : List ℕ) (l : List Entry) (tag : ℕ) (ready : List (List ℕ)) → electOf i l tag ready .number ≡ 0
+    → (length (candidatesOf l ready) ≡ 0 → ⊥) × (electOf i l tag ready ≡ namedAnswer (elected (inUse l .algorithm) tag (digestOf tag i) (candidatesOf l ready) .address) (inUse l .algorithm) (length (candidatesOf l ready)) (candidateSet (inUse l .«ac_df») ready l))
 unfolding electOf answerOf
 accepted-names i l tag ready = go (reservedTag tag) (ltb 64 (length ready)) (eqb (length cs) 0) refl
   where
@@ -70,17 +70,17 @@ accepted-names i l tag ready = go (reservedTag tag) (ltb 64 (length ready)) (eqb
     cs = candidatesOf l ready
 
     w : Answer
-    w = record { number = 0; address = elected (inUse l .algorithm) tag (digestOf tag i) cs .address; algorithm = inUse l .algorithm; n = length cs; candidates = candidateSet (inUse l .«ac_df») ready l }
+    w = namedAnswer (elected (inUse l .algorithm) tag (digestOf tag i) cs .address) (inUse l .algorithm) (length cs) (candidateSet (inUse l .«ac_df») ready l)
 
     go : (a b c : Bool) → eqb (length cs) 0 ≡ c → cond a (refusedAnswer 10) (cond b (refusedAnswer 11) (cond c (refusedAnswer 12) w)) .number ≡ 0
-        → (length cs ≡ 0 → ⊥) × (cond a (refusedAnswer 10) (cond b (refusedAnswer 11) (cond c (refusedAnswer 12) w)) .address ≡ elected (inUse l .algorithm) tag (digestOf tag i) cs .address)
+        → (length cs ≡ 0 → ⊥) × (cond a (refusedAnswer 10) (cond b (refusedAnswer 11) (cond c (refusedAnswer 12) w)) ≡ w)
     go true b c e h = absurd (omega (arith, h))
     go false true c e h = absurd (omega (arith, h))
     go false false true e h = absurd (omega (arith, h))
     go false false false e h = (eqb-false (length cs) 0 e, refl)
 
 -- THE ANSWER upon a table
-module _ (t : Table) (w : WellFormed t) (tag : ℕ) (ready : List ℕ) where
+module _ (t : Table) (w : WellFormed t) (tag : ℕ) (ready : List (List ℕ)) where
   abbrev es : List Entry
   es = t .entries
 
@@ -124,7 +124,7 @@ module _ (t : Table) (w : WellFormed t) (tag : ℕ) (ready : List ℕ) where
 
   pub answers : (v : InUse) (s d at n : ℕ) → v ≡ u → s ≡ set → (s ≡ 0 → ⊥) → d ≡ digestUnder (v .algorithm) tag (t .esi)
       → getD es at noEntry ≡ elected (v .algorithm) tag d (entriesAt es (places s)) → n ≡ length (places s) → n ≡ ones s
-      → Answers (namedOf (getD es at noEntry .address) (v .algorithm) n s)
+      → Answers (namedAnswer (getD es at noEntry .address) (v .algorithm) n s)
   unfolding answerOf answerFor
   answers v s d at n a e z f g m o =
       let some : length cs ≡ 0 → ⊥ = λ q. z (e ∙ places-empty set fits (empty (places set) (sym length-cs ∙ q))) in
@@ -187,7 +187,8 @@ module _ (t : Table) (w : WellFormed t) (tag : ℕ) (ready : List ℕ) where
       let q = unique-rising entryKey 0 cs rising in
       record {
         entry = elected a tag d cs;
-        address = n .1;
+        family = ap (λ (r : Answer). r .family) (n .1);
+        address = ap (λ (r : Answer). r .address) (n .1);
         candidate = elected-in cs (n .0);
         top = elected-top cs q;
         only = elected-only cs q;

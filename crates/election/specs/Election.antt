@@ -3,6 +3,7 @@
 --   refusedAnswer n         == the answer with the refusal n: every other number is zero
 --   reservedTag tag         == whether the tag is 0 or 4,294,967,295
 --   candidatesOf l ready    == the candidates among the entries l, with the AC-DF bit in use
+--   namedAnswer x a n set   == the answer that names the address x
 --   answerOf i u cs set tag == the answer once 10 and 11 are passed, with u in use and the candidates cs, whose set is `set`
 --   electOf i l tag ready   == the whole answer
 --   NoneNamed l tag ready r == r is the refusal 12, which names nobody, exactly if no route is eligible
@@ -11,8 +12,9 @@ use Prim.Native.Nat.{ℕ, _%_, _≤_}
 use mathlib.Core.Path.{_≡_}
 use mathlib.Core.Bool.{Bool, false, cond, _||_}
 use mathlib.Core.List.{List, [], List·Memᴰ}
-use lib.ListN.{length, getD}
+use lib.ListN.{length, getD, replicate}
 use lib.Dec.{ltb, eqb}
+use Rattle.address.specs.Address.{familyOf, octetsOfAddress}
 use Rattle.layout.specs.Table.{Entry, noEntry}
 use Rattle.hrw.specs.Weight.{digestOf}
 use Rattle.agreement.specs.Agreement.{inUse}
@@ -24,40 +26,39 @@ use Rattle.election.specs.declared.Answer.{Answer}
 
 -- 10 for a reserved tag, 11 for a list over 64, 12 where no route is eligible
 abbrev pub refusedAnswer : ℕ → Answer
-refusedAnswer n = record { number = n; address = 0; algorithm = 0; n = 0; candidates = 0 }
+refusedAnswer n = record { number = n; family = 0; address = replicate 16 0; algorithm = 0; n = 0; candidates = 0 }
 
 unfoldable pub reservedTag : ℕ → Bool
 reservedTag tag = eqb tag 0 || eqb tag 4294967295
 
-abbrev pub candidatesOf : List Entry → List ℕ → List Entry
+abbrev pub candidatesOf : List Entry → List (List ℕ) → List Entry
 candidatesOf l ready = candidates (inUse l .«ac_df») ready l
+
+-- the address is told as its family and its sixteen octets
+abbrev pub namedAnswer : List ℕ → ℕ → ℕ → ℕ → Answer
+namedAnswer x a n set = record { number = 0; family = familyOf x; address = octetsOfAddress x; algorithm = a; n = n; candidates = set }
 
 unfoldable pub answerOf : List ℕ → InUse → List Entry → ℕ → ℕ → Answer
 answerOf i u cs set tag =
-    cond (eqb (length cs) 0) (refusedAnswer noneEligible) (record {
-      number = 0;
-      address = elected (u .algorithm) tag (digestOf tag i) cs .address;
-      algorithm = u .algorithm;
-      n = length cs;
-      candidates = set;
-    })
+    cond (eqb (length cs) 0) (refusedAnswer noneEligible) (namedAnswer (elected (u .algorithm) tag (digestOf tag i) cs .address) (u .algorithm) (length cs) set)
 
-unfoldable pub electOf : List ℕ → List Entry → ℕ → List ℕ → Answer
+unfoldable pub electOf : List ℕ → List Entry → ℕ → List (List ℕ) → Answer
 electOf i l tag ready =
     cond (reservedTag tag) (refusedAnswer tagReserved)
     (cond (ltb 64 (length ready)) (refusedAnswer readyTooLong)
     (answerOf i (inUse l) (candidatesOf l ready) (candidateSet (inUse l .«ac_df») ready l) tag))
 
 -- none is named, and 12 answered with zeros, exactly if no route is eligible; 10 and 11 come first
-abbrev pub NoneNamed : List Entry → ℕ → List ℕ → Answer → Type 0
+abbrev pub NoneNamed : List Entry → ℕ → List (List ℕ) → Answer → Type 0
 NoneNamed l tag ready r =
     (r .number ≡ noneEligible → candidatesOf l ready ≡ [])
     × (reservedTag tag ≡ false → length ready ≤ 64 → candidatesOf l ready ≡ [] → r ≡ refusedAnswer noneEligible)
 
 -- the address named is that of a candidate. Under algorithms 1 to 3 no candidate is better, and it is the only such; under 0 it is the one at tag mod N
-pub record Forwarder (i : List ℕ) (l : List Entry) (tag : ℕ) (ready : List ℕ) (r : Answer) : Type 0 where
+pub record Forwarder (i : List ℕ) (l : List Entry) (tag : ℕ) (ready : List (List ℕ)) (r : Answer) : Type 0 where
   pub entry : Entry
-  pub address : r .address ≡ entry .address
+  pub family : r .family ≡ familyOf (entry .address)
+  pub address : r .address ≡ octetsOfAddress (entry .address)
   pub candidate : List·Memᴰ entry (candidatesOf l ready)
   pub top : (inUse l .algorithm ≡ 0 → ⊥) → (x : Entry) → List·Memᴰ x (candidatesOf l ready) → better (inUse l .algorithm) (digestOf tag i) x entry ≡ false
   pub only : (inUse l .algorithm ≡ 0 → ⊥) → (x : Entry) → List·Memᴰ x (candidatesOf l ready)

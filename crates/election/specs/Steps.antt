@@ -1,6 +1,5 @@
 -- What the steps of the election promise to it. The promise of the election itself cites none of these.
 --   digestUnder a tag i     == the digest of the tag on the identifier i under algorithm 1, and 0 under the others, which ask for none
---   namedOf x a n set       == the answer that names the address x
 --   answerFor i l tag ready == the answer of the election once 10 and 11 are passed
 use Prim.Native.Nat.{ℕ}
 use mathlib.Core.Bool.{cond}
@@ -16,8 +15,5 @@ use Rattle.election.specs.declared.Answer.{Answer}
 unfoldable pub digestUnder : ℕ → ℕ → List ℕ → ℕ
 digestUnder a tag i = cond (eqb a 1) (digestOf tag i) 0
 
-abbrev pub namedOf : ℕ → ℕ → ℕ → ℕ → Answer
-namedOf x a n set = record { number = 0; address = x; algorithm = a; n = n; candidates = set }
-
-unfoldable pub answerFor : List ℕ → List Entry → ℕ → List ℕ → Answer
+unfoldable pub answerFor : List ℕ → List Entry → ℕ → List (List ℕ) → Answer
 answerFor i l tag ready = answerOf i (inUse l) (candidatesOf l ready) (candidateSet (inUse l .«ac_df») ready l) tag

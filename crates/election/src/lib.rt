@@ -1,19 +1,21 @@
 // The Designated Forwarder election for one Ethernet Tag: the algorithm in use (`agreement`), the candidates (`ready`), the elected one of them (`winner`), and
 // the whole answer.
-use address::Address;
+use address::WIDTH;
 use refusals::NONE_ELIGIBLE;
 use refusals::READY_TOO_LONG;
 use refusals::TAG_RESERVED;
 ghost use mathlib.Core.Path.{_≡_};
 ghost use lib.Count.{ones};
 ghost use Rattle.layout.specs.Words.{tableIn, Valid};
+ghost use Rattle.ready.specs.Ready.{readyIn};
 ghost use Rattle.election.specs.Election.{refusedAnswer, electOf, NoneNamed, Forwarder};
-ghost use Rattle.election.specs.Steps.{digestUnder, namedOf, answerFor};
+ghost use Rattle.election.specs.Steps.{digestUnder, answerFor};
 
-// The whole answer: 0 and the elected address, the algorithm in use, the number N of candidates and their set; or a refusal number and zeros.
+// The whole answer: 0 and the elected address, its family (4 or 6) and sixteen octets, an IPv4 address in the first four; the algorithm in use, the number N of candidates and their set; or a refusal number and zeros.
 pub struct Answer {
     pub number: u8,
-    pub address: Address,
+    pub family: u8,
+    pub address: [u8; 16],
     pub algorithm: u8,
     pub n: u32,
     pub candidates: u64,
@@ -22,7 +24,7 @@ pub struct Answer {
 // The reserved tag besides 0.
 const LAST_TAG: u32 = 4294967295;
 
-// The most addresses that a ready list may have.
+// The most rows that a ready list may have.
 const MAX_READY: usize = 64;
 
 // The digest of a tag on the table's segment, which only algorithm 1 asks for; 0 under the others.
@@ -42,30 +44,18 @@ fn refusal(number: u8) -> Answer
 {
     Answer {
         number: number,
-        address: 0,
+        family: 0,
+        address: [0; 16],
         algorithm: 0,
         n: 0,
         candidates: 0,
     }
 }
 
-// The answer that names an address.
-fn named(address: Address, algorithm: u8, n: u32, set: u64) -> Answer
-    ensures { λ r. ⌜ r ≡ namedOf address algorithm n set ⌝ }
-{
-    Answer {
-        number: 0,
-        address: address,
-        algorithm: algorithm,
-        n: n,
-        candidates: set,
-    }
-}
-
 // The answer once the tag and the list are accepted: 12 where no route is eligible. N is the number of the ones of the candidate set.
-fn elect_accepted(t: &[u32], tag: u32, ready: &[Address]) -> Answer
+fn elect_accepted(t: &[u32], tag: u32, ready: &[u32]) -> Answer
     requires { ⌜ Valid (now t) ⌝ }
-    ensures answer { λ r. ⌜ r ≡ answerFor (tableIn (now (t .entry)) .esi) (tableIn (now (t .entry)) .entries) tag (now (ready .entry)) ⌝ }
+    ensures answer { λ r. ⌜ r ≡ answerFor (tableIn (now (t .entry)) .esi) (tableIn (now (t .entry)) .entries) tag (readyIn (now (ready .entry))) ⌝ }
     ensures counted { λ r. ⌜ r .n ≡ ones (r .candidates) ⌝ }
 {
     let u = agreement::in_use(t);
@@ -76,20 +66,28 @@ fn elect_accepted(t: &[u32], tag: u32, ready: &[Address]) -> Answer
     }
     let digest = digest_under(t, algorithm, tag);
     let at = winner::elected_place(t, set, algorithm, tag, digest);
-    let address = layout::address_at(t, at);
+    let family = layout::family_at(t, at);
+    let address = layout::octets_at(t, at);
     let n = places::count(set);
-    named(address, algorithm, n, set)
+    Answer {
+        number: 0,
+        family: family,
+        address: address,
+        algorithm: algorithm,
+        n: n,
+        candidates: set,
+    }
 }
 
-// Elects the Designated Forwarder for a tag: 10 for tag 0 or 4,294,967,295, 11 for a ready list over 64, 12 where no route is eligible.
+// Elects the Designated Forwarder for a tag: 10 for tag 0 or 4,294,967,295, 11 for a ready list over 64 rows of five words, 12 where no route is eligible.
 // N is the number of the ones of the candidate set. An address that is named is that of a candidate; under algorithms 1 to 3 no candidate is better, and it is
 // the only such.
-pub fn elect(t: &[u32], tag: u32, ready: &[Address]) -> Answer
+pub fn elect(t: &[u32], tag: u32, ready: &[u32]) -> Answer
     requires { ⌜ Valid (now t) ⌝ }
-    ensures answer { λ r. ⌜ r ≡ electOf (tableIn (now (t .entry)) .esi) (tableIn (now (t .entry)) .entries) tag (now (ready .entry)) ⌝ }
+    ensures answer { λ r. ⌜ r ≡ electOf (tableIn (now (t .entry)) .esi) (tableIn (now (t .entry)) .entries) tag (readyIn (now (ready .entry))) ⌝ }
     ensures counted { λ r. ⌜ r .n ≡ ones (r .candidates) ⌝ }
-    ensures none_named { λ r. ⌜ NoneNamed (tableIn (now (t .entry)) .entries) tag (now (ready .entry)) r ⌝ }
-    ensures forwarder { λ r. ⌜ (r .number ≡ 0 → Forwarder (tableIn (now (t .entry)) .esi) (tableIn (now (t .entry)) .entries) tag (now (ready .entry)) r) ⌝ }
+    ensures none_named { λ r. ⌜ NoneNamed (tableIn (now (t .entry)) .entries) tag (readyIn (now (ready .entry))) r ⌝ }
+    ensures forwarder { λ r. ⌜ (r .number ≡ 0 → Forwarder (tableIn (now (t .entry)) .esi) (tableIn (now (t .entry)) .entries) tag (readyIn (now (ready .entry))) r) ⌝ }
 {
     if tag == 0 {
         return refusal(TAG_RESERVED);
@@ -97,7 +95,7 @@ pub fn elect(t: &[u32], tag: u32, ready: &[Address]) -> Answer
     if tag == LAST_TAG {
         return refusal(TAG_RESERVED);
     }
-    if MAX_READY < ready.len() {
+    if MAX_READY < ready.len() / WIDTH {
         return refusal(READY_TOO_LONG);
     }
     elect_accepted(t, tag, ready)

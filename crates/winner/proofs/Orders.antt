@@ -10,6 +10,7 @@ use Rattle.lists.proofs.Bools.{bit-less, cond-by}
 use Rattle.lists.proofs.Numbers.{either, ordered}
 use Rattle.layout.specs.Table.{Entry, entryKey}
 use Rattle.layout.proofs.Words.{Narrow}
+use Rattle.address.specs.Address.{addressNumber}
 use Rattle.hrw.specs.Weight.{weightOf}
 use Rattle.choice.specs.Choice.{decided, byScore}
 use Rattle.choice.proofs.Laws.{Order}
@@ -24,7 +25,7 @@ order-preference false = order-then _ _ entryKey (criterion-higher (λ (e : Entr
 pub order-better : (a d : ℕ) → Order entryKey (better a d)
 unfolding better
 order-better a d =
-    cond-by (Order entryKey) (eqb a 1) (λ _. order-byScore (λ (e : Entry). weightOf (e .address) d) entryKey) (λ _. order-preference (eqb a 3))
+    cond-by (Order entryKey) (eqb a 1) (λ _. order-byScore (λ (e : Entry). weightOf (addressNumber (e .address)) d) entryKey) (λ _. order-preference (eqb a 3))
 
 -- under algorithms other than 1 the digest plays no part
 pub better-any : (a d f : ℕ) → eqb a 1 ≡ false → better a d ≡ better a f
@@ -64,8 +65,8 @@ better-score a d x y h k = go (eqb a 1) (eqb a 3)
   where
     go : (b c : Bool) → cond b (byWeight d) (byPreference c) x y
         ≡ decided
-        (ltb (cond b (weightOf (y .address) d) (withBit (cond c (65535 - y .preference) (y .preference)) (y .dp))) (cond b (weightOf (x .address) d) (withBit (cond c (65535 - x .preference) (x .preference)) (x .dp))))
-        (ltb (cond b (weightOf (x .address) d) (withBit (cond c (65535 - x .preference) (x .preference)) (x .dp))) (cond b (weightOf (y .address) d) (withBit (cond c (65535 - y .preference) (y .preference)) (y .dp))))
+        (ltb (cond b (weightOf (addressNumber (y .address)) d) (withBit (cond c (65535 - y .preference) (y .preference)) (y .dp))) (cond b (weightOf (addressNumber (x .address)) d) (withBit (cond c (65535 - x .preference) (x .preference)) (x .dp))))
+        (ltb (cond b (weightOf (addressNumber (x .address)) d) (withBit (cond c (65535 - x .preference) (x .preference)) (x .dp))) (cond b (weightOf (addressNumber (y .address)) d) (withBit (cond c (65535 - y .preference) (y .preference)) (y .dp))))
         (ltb (entryKey x) (entryKey y))
     go true c = refl
     go false true =

@@ -4,9 +4,10 @@ use Prim.Native.Nat.{ℕ, _+_, _-_, _*_}
 use mathlib.Core.Bool.{cond}
 use lib.Dec.{eqb}
 use Rattle.lists.specs.Lists.{bit}
+use Rattle.address.specs.Address.{addressNumber}
 use Rattle.layout.specs.Table.{Entry}
 use Rattle.hrw.specs.Weight.{weightOf}
 
 unfoldable pub scoreOf : ℕ → ℕ → Entry → ℕ
 scoreOf a d e =
-    cond (eqb a 1) (weightOf (e .address) d) (cond (eqb a 3) (65535 - e .preference) (e .preference) * 2 + bit (e .dp))
+    cond (eqb a 1) (weightOf (addressNumber (e .address)) d) (cond (eqb a 3) (65535 - e .preference) (e .preference) * 2 + bit (e .dp))

@@ -9,13 +9,14 @@ use mathlib.Core.Bool.{Bool, cond}
 use mathlib.Core.List.{List, map}
 use lib.ListN.{length, getD}
 use lib.Dec.{eqb}
+use Rattle.address.specs.Address.{addressNumber}
 use Rattle.layout.specs.Table.{Entry, entryKey, noEntry}
 use Rattle.choice.specs.Choice.{bestOf, higher, lower, flagged, andThen, byScore}
 use Rattle.hrw.specs.Weight.{weightOf}
 
 -- 1: greatest weight; on a tie the lowest address
 abbrev pub byWeight : ℕ → Entry → Entry → Bool
-byWeight d = byScore (λ e. weightOf (e .address) d) entryKey
+byWeight d = byScore (λ e. weightOf (addressNumber (e .address)) d) entryKey
 
 -- 2: higher preference, then DP set, then lower address. 3: lower preference, then the same
 abbrev pub byPreference : Bool → Entry → Entry → Bool

@@ -20,7 +20,7 @@ fn score(t: &[u32], at: usize, algorithm: u8, digest: u32) -> u32
     ensures { λ r. ⌜ r ≡ scoreOf algorithm digest (getD (tableIn (now (t .entry)) .entries) at noEntry) ⌝ }
 {
     if algorithm == 1 {
-        return hrw::weight(layout::address_at(t, at), digest);
+        return hrw::weight(layout::low_word_at(t, at), digest);
     }
     let standing = layout::standing_at(t, at);
     if algorithm == 3 {

@@ -1,6 +1,7 @@
 -- `elect` meets its contract: the checks in their order, and then the answer of an accepted tag and list. Assumes nothing.
 use borrow.Author.Needs.{needs}
 use Rattle.layout.specs.Words.{tableIn}
+use Rattle.ready.proofs.Laws.{length-ready}
 use Rattle.election.proofs.Laws.{promised, elects-10, elects-11, tag-zero, tag-last, tag-right, asked}
 use Rattle.election.proofs.elect.Statement.{statement}
 use Rattle.election.proofs.elect.Tie as tie
@@ -21,7 +22,7 @@ returns-3 c =
     let second = c .before .before in
     let first = second .before in
     let start = first .before .before .before in
-    rw (c .refusal3 .ensures) (promised (tableIn (start .args .t .now)) (start .pre .sound) _ _ (elects-11 (tableIn (start .args .t .now)) (start .pre .sound) _ _ (tag-right _ (first .if1 .left) (second .if2 .left)) (c .before .if3 .taken)))
+    rw (c .refusal3 .ensures) (promised (tableIn (start .args .t .now)) (start .pre .sound) _ _ (elects-11 (tableIn (start .args .t .now)) (start .pre .sound) _ _ (tag-right _ (first .if1 .left) (second .if2 .left)) (rw (length-ready _) (c .before .if3 .taken))))
 
 returns-4 : tie.Need-returns-4
 returns-4 c =
@@ -30,7 +31,7 @@ returns-4 c =
     let first = second .before in
     let start = first .before .before .before in
     promised (tableIn (start .args .t .now)) (start .pre .sound) _ _
-    (asked (tableIn (start .args .t .now)) (start .pre .sound) _ _ (tag-right _ (first .if1 .left) (second .if2 .left)) (third .if3 .left) (c .elect-accepted .ensures))
+    (asked (tableIn (start .args .t .now)) (start .pre .sound) _ _ (tag-right _ (first .if1 .left) (second .if2 .left)) (rw (length-ready _) (third .if3 .left)) (c .elect-accepted .ensures))
 
 pub elect-spec : {M : Type 1} → statement M
 elect-spec =

@@ -6,7 +6,7 @@ use Rattle.layout.specs.Table.{Table}
 use Rattle.layout.specs.Words.{tableIn}
 use Rattle.agreement.specs.Agreement.{inUse}
 use Rattle.agreement.specs.declared.InUse.{InUse}
-use Rattle.ready.specs.Ready.{candidateSet}
+use Rattle.ready.specs.Ready.{readyIn, candidateSet}
 use Rattle.election.proofs.Laws.{set-under, answers-12, answers}
 use Rattle.election.proofs.elect_accepted.Statement.{statement}
 use Rattle.election.proofs.elect_accepted.Tie as tie
@@ -18,29 +18,30 @@ from j = j .before .before .before .before
 abbrev table : tie.After-candidate-set → Table
 table j = tableIn (now (from j .args .t))
 
-is-set : (j : tie.After-candidate-set) → j .candidate-set .result ≡ candidateSet (inUse (table j .entries) .«ac_df») (now (from j .args .ready)) (table j .entries)
-is-set j = j .candidate-set .ensures ∙ ap (λ (u : InUse). candidateSet (u .«ac_df») (now (from j .args .ready)) (table j .entries)) (j .before .in-use .ensures)
+is-set : (j : tie.After-candidate-set) → j .candidate-set .result ≡ candidateSet (inUse (table j .entries) .«ac_df») (readyIn (now (from j .args .ready))) (table j .entries)
+is-set j = j .candidate-set .ensures ∙ ap (λ (u : InUse). candidateSet (u .«ac_df») (readyIn (now (from j .args .ready))) (table j .entries)) (j .before .in-use .ensures)
 
 returns : tie.Need-returns
 returns c =
     let j = c .before .before in
-    rw (c .refusal .ensures) (answers-12 (table j) (from j .pre .sound) (from j .args .tag) (now (from j .args .ready)) _ (is-set j) (c .before .if1 .taken))
+    rw (c .refusal .ensures) (answers-12 (table j) (from j .pre .sound) (from j .args .tag) (readyIn (now (from j .args .ready))) _ (is-set j) (c .before .if1 .taken))
 
 elected-place-requires : tie.Need-elected-place-requires
 elected-place-requires c κs =
     let j = c .before .before in
-    (from j .pre, c .before .if1 .left, rw (is-set j) (set-under (table j) (from j .pre .sound) (from j .args .tag) (now (from j .args .ready))))
+    (from j .pre, c .before .if1 .left, rw (is-set j) (set-under (table j) (from j .pre .sound) (from j .args .tag) (readyIn (now (from j .args .ready)))))
 
 returns-2 : tie.Need-returns-2
 returns-2 c =
-    let counted = c .before in
-    let known = counted .before in
+    let counted = c in
+    let told = counted .before in
+    let known = told .before in
     let placed = known .before in
     let digested = placed .before in
     let tested = digested .before in
     let j = tested .before in
-    rw (c .named .ensures, known .address-at .ensures)
-    (answers (table j) (from j .pre .sound) (from j .args .tag) (now (from j .args .ready)) _ _ _ _ _ (j .before .in-use .ensures) (is-set j) (tested .if1 .left) (digested .digest-under .ensures) (placed .elected-place .ensures .1) (counted .count .ensures .0) (counted .count .ensures .1))
+    rw (known .family-at .ensures, told .octets-at .ensures)
+    (answers (table j) (from j .pre .sound) (from j .args .tag) (readyIn (now (from j .args .ready))) _ _ _ _ _ (j .before .in-use .ensures) (is-set j) (tested .if1 .left) (digested .digest-under .ensures) (placed .elected-place .ensures .1) (counted .count .ensures .0) (counted .count .ensures .1))
 
 pub elect-accepted-spec : {M : Type 1} → statement M
 elect-accepted-spec =

@@ -6,6 +6,7 @@ use borrow.Author.Tests.{eq-eqb}
 use denote.Ref.{now}
 use lib.ListN.{getD}
 use Rattle.hrw.specs.Weight.{weightOf}
+use Rattle.hrw.proofs.Laws.{weightOf-word}
 use Rattle.layout.specs.Table.{noEntry}
 use Rattle.layout.specs.Words.{tableIn}
 use Rattle.layout.proofs.Words.{narrow-entry}
@@ -18,7 +19,7 @@ returns : tie.Need-returns
 unfolding scoreOf
 returns c =
     let start = c .before .before .before .before in
-    c .weight .ensures ∙ rw (eq-eqb (start .args .algorithm) 1 (c .before .before .if1 .taken)) (ap (λ (x : ℕ). weightOf x (start .args .digest)) (c .before .address-at .ensures))
+    c .weight .ensures ∙ rw (eq-eqb (start .args .algorithm) 1 (c .before .before .if1 .taken)) (ap (λ (x : ℕ). weightOf x (start .args .digest)) (c .before .low-word-at .ensures) ∙ weightOf-word _ (start .args .digest))
 
 returns-2 : tie.Need-returns-2
 returns-2 c =
