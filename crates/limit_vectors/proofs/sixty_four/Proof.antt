@@ -2,8 +2,8 @@
 use Prim.Native.Nat.{_-_}
 use native.Mathlib.Omega.{arith}
 use Rattle.layout.specs.Words.{Valid}
-use Rattle.vectors.proofs.sixty_four.Statement.{statement}
-use Rattle.vectors.proofs.sixty_four.Tie as tie
+use Rattle.limit_vectors.proofs.sixty_four.Statement.{statement}
+use Rattle.limit_vectors.proofs.sixty_four.Tie as tie
 
 abbrev Inv-loop : tie.InvT-loop
 Inv-loop t₀ n₀ t n = Valid (t .words)
