@@ -17,14 +17,15 @@ use Rattle.records.specs.declared.Phase.{Phase}
 use Rattle.records.specs.declared.Phase.the-variants.{Ended}
 use Rattle.records.specs.declared.Step.{Step}
 use Rattle.blocks.specs.declared.Progress.{Progress}
-use Rattle.records.specs.Records.{Bench, stateIn, badLine, turn, isEnd, hasEnded, runFrom, endOf}
-use Rattle.records.specs.Steps.{Written, Stepped}
+use Rattle.answer_lines.specs.AnswerLines.{badLine, Written}
+use Rattle.records.specs.Records.{Bench, stateIn, turn, isEnd, hasEnded, runFrom, endOf}
+use Rattle.records.specs.Steps.{Stepped}
 use Rattle.blocks.specs.Blocks.{isPart, stopped, Advanced, Ran, Stopped, kept, lastOf, nextIn, Why, ended, full, part, BlockTaken}
 use Rattle.blocks.specs.declared.Taken.{Taken}
 use Rattle.blocks.specs.declared.Next.{Next}
 use Rattle.blocks.specs.declared.Next.the-variants.{Done, Again, Read}
 use Rattle.blocks.proofs.Runs.{run-ended, run-found, run-spoilt, end-ended, run-end-nothing, run-end-cut}
-use Rattle.records.proofs.Laws.{written-none}
+use Rattle.answer_lines.proofs.Laws.{written-none}
 
 -- ---- octets written at a place: those before it and they themselves, and those after
 

@@ -15,7 +15,8 @@ use Rattle.lines.specs.Lines.{Put}
 use Rattle.lines.proofs.Laws.{put-made}
 use Rattle.records.specs.declared.Phase.{Phase}
 use Rattle.records.specs.declared.Phase.the-variants.{Start}
-use Rattle.records.specs.Records.{Bench, badLine, stateIn, turn, isEnd, hasEnded, before, runFor, runFrom, first, runOf, endOf}
+use Rattle.answer_lines.specs.AnswerLines.{badLine}
+use Rattle.records.specs.Records.{Bench, stateIn, turn, isEnd, hasEnded, before, runFor, runFrom, first, runOf, endOf}
 
 -- ---- the start
 

@@ -26,8 +26,8 @@ use lib.Dec.{ltb}
 use Rattle.octets.specs.Octets.{stored}
 use Rattle.frames.specs.Frames.{Front, nothing, bad, cut, whole, front}
 use Rattle.records.specs.declared.Phase.{Phase}
+use Rattle.answer_lines.specs.AnswerLines.{Written}
 use Rattle.records.specs.Records.{Bench, isEnd, hasEnded, runFrom}
-use Rattle.records.specs.Steps.{Written}
 use Rattle.blocks.specs.declared.Progress.{Progress}
 use Rattle.blocks.specs.declared.Next.{Next}
 use Rattle.blocks.specs.declared.Next.the-variants.{Done, Again, Read}

@@ -1,7 +1,7 @@
 // Blocks of input taken record by record (document 01, "The bench program"): what stands at a place of the block is taken by `records`, as long as the
 // records are whole and their lines find room, and what is left over is kept at the block's front. Reading and writing is the program's.
+use answer_lines::LINE_ROOM;
 use frames::Frame;
-use records::LINE_ROOM;
 use records::Phase;
 use table::WORDS;
 ghost use mathlib.Core.Path.{_≡_};
@@ -85,7 +85,7 @@ pub fn finish(phase: Phase, rest: &[u8], out: &mut [u8]) -> usize
     if rest.len() == 0 {
         return 0;
     }
-    records::put_bad(out, 0)
+    answer_lines::put_bad(out, 0)
 }
 
 // One record at place `used` of the input, or none, where the octets from there on hold no whole record.
@@ -106,7 +106,7 @@ fn take_record(
         Frame::Nothing => Progress { phase, used, wrote },
         Frame::Cut => Progress { phase, used, wrote },
         Frame::Bad => {
-            let end = records::put_bad(out, wrote);
+            let end = answer_lines::put_bad(out, wrote);
             Progress {
                 phase: Phase::Ended,
                 used: input.len(),

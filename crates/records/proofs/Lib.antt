@@ -1,4 +1,4 @@
--- Laws of a record's lines and of its turn.
+-- Laws of a record's turn.
 pub mod Laws
 mod Turns
 mod Words

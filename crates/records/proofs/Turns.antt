@@ -17,9 +17,10 @@ use Rattle.election.specs.Election.{electOf}
 use Rattle.records.specs.declared.Phase.{Phase}
 use Rattle.records.specs.declared.Phase.the-variants.{Start, Running, Ended}
 use Rattle.records.specs.declared.Step.{Step}
-use Rattle.records.specs.Records.{Turn, line, readLine, stateIn, running, ended, badTurn, queryLine, textTurn, announceTurn, withdrawTurn, queryTurn, laterTurn, wordsIn, turnIn}
-use Rattle.records.specs.Steps.{Written, Stepped}
-use Rattle.records.proofs.Laws.{written-as, written-none}
+use Rattle.answer_lines.specs.AnswerLines.{line, readLine, queryLine, Written}
+use Rattle.answer_lines.proofs.Laws.{written-as, written-none}
+use Rattle.records.specs.Records.{Turn, stateIn, running, ended, badTurn, textTurn, announceTurn, withdrawTurn, queryTurn, laterTurn, wordsIn, turnIn}
+use Rattle.records.specs.Steps.{Stepped}
 
 -- four octets are the list of themselves
 pub four : (l : List ℕ) → length l ≡ 4 → getD l 0 0 ∷ getD l 1 0 ∷ getD l 2 0 ∷ getD l 3 0 ∷ [] ≡ l

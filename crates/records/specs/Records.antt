@@ -1,14 +1,7 @@
 -- The bench program's run (document 01, "The bench program"): octets in, octets out.
--- Letters and signs are octets: `a` 97, `p` 112, `q` 113, `w` 119, `x` 120, space 32, newline 10.
+-- Letters are octets: `a` 97, `p` 112, `w` 119.
 --   Bench              == the state of a run: its phase and its table
 --   Turn               == what one record does: the line that is printed, and the state after it
---   line c n           == the line of the letter c and the number n
---   offsetLine c n p    == the line of the letter c, the number n and the offset p
---   hasOffset n         == whether an offset is printed after the number n: after 1 to 4, 6 and 13 (document 02, M-103)
---   readLine c n p     == the line of the letter c for what was read: the number n, and the offset p where one is printed
---   badLine            == the line `x 16`
---   electedLine a n    == the line of an accepted query
---   queryLine r        == the line of the election's answer r
 --   stateIn h w        == the state of the phase h with the table that lies in the words w
 --   running t          == the state in which records are carried out upon the table t
 --   ended t            == the state in which nothing more is looked at
@@ -30,7 +23,7 @@
 --   runOf s            == the whole output for the input s
 --   endOf h s          == what is printed in the phase h where the input ends with the octets s, which are no whole record
 use Prim.Native.Nat.{ℕ, zero, suc, _%_}
-use mathlib.Core.Bool.{Bool, true, false, cond, _&&_, _||_}
+use mathlib.Core.Bool.{Bool, true, false, cond, _&&_}
 use mathlib.Core.List.{List, [], _∷_, _++_}
 use lib.ListN.{length, take, drop, replicate}
 use lib.Dec.{leb, eqb}
@@ -39,10 +32,9 @@ use Rattle.esi.specs.Text.{readText}
 use Rattle.layout.specs.Table.{Table}
 use Rattle.table.specs.Table.{freshTable, announced, withdrawn}
 use Rattle.layout.specs.Words.{tableIn}
-use Rattle.election.specs.declared.Answer.{Answer}
 use Rattle.election.specs.Election.{electOf}
 use Rattle.frames.specs.Frames.{Front, nothing, bad, cut, whole, front}
-use Rattle.lines.specs.Lines.{decimal, dotted}
+use Rattle.answer_lines.specs.AnswerLines.{line, readLine, badLine, queryLine}
 use Rattle.records.specs.declared.Phase.{Phase}
 use Rattle.records.specs.declared.Phase.the-variants.{Start, Running, Ended}
 
@@ -53,29 +45,6 @@ pub record Bench : Type 0 where
 pub record Turn : Type 0 where
   pub line : List ℕ
   pub next : Bench
-
--- LINES
-unfoldable pub line : ℕ → ℕ → List ℕ
-line c n = (c ∷ []) ++ ((32 ∷ []) ++ (decimal n ++ (10 ∷ [])))
-
-unfoldable pub offsetLine : ℕ → ℕ → ℕ → List ℕ
-offsetLine c n p = (c ∷ []) ++ ((32 ∷ []) ++ (decimal n ++ ((32 ∷ []) ++ (decimal p ++ (10 ∷ [])))))
-
-unfoldable pub hasOffset : ℕ → Bool
-hasOffset n = (leb 1 n && leb n 4) || (eqb n 6 || eqb n 13)
-
-unfoldable pub readLine : ℕ → ℕ → ℕ → List ℕ
-readLine c n p = cond (hasOffset n) (offsetLine c n p) (line c n)
-
-abbrev pub badLine : List ℕ
-badLine = 120 ∷ 32 ∷ 49 ∷ 54 ∷ 10 ∷ []
-
--- an accepted query adds the address and N
-unfoldable pub electedLine : ℕ → ℕ → List ℕ
-electedLine a n = (113 ∷ 32 ∷ 48 ∷ 32 ∷ []) ++ (dotted a ++ ((32 ∷ []) ++ (decimal n ++ (10 ∷ []))))
-
-unfoldable pub queryLine : Answer → List ℕ
-queryLine r = cond (eqb (r .number) 0) (electedLine (r .address) (r .n)) (line 113 (r .number))
 
 -- STATES
 abbrev pub stateIn : Phase → List ℕ → Bench

@@ -1,25 +1,18 @@
 -- What the steps of one record promise (document 01, "The bench program").
---   Written d at s r e      == the octets s, for which there was room, are put at offset `at` of the buffer that held d, which then holds e; r is the
---                              offset after them
 --   Stepped d at u r w e    == the turn u was taken: its line is written at offset `at` of the buffer that held d, which then holds e; the phase in the
 --                              answer r and the table in the words w are the state after it, and r holds the offset after the line
 --   takes d at p            == whether a record with the payload p is taken with its line at offset `at` of a buffer that holds d: there is room for any line,
 --                              and the payload has at most 255 octets
-use Prim.Native.Nat.{ℕ, _+_, _≤_}
+use Prim.Native.Nat.{ℕ, _+_}
 use mathlib.Core.Path.{_≡_}
 use mathlib.Core.Bool.{Bool, _&&_}
 use mathlib.Core.List.{List}
 use lib.ListN.{length}
 use lib.Dec.{leb}
-use Rattle.octets.specs.Octets.{stored}
 use Rattle.layout.specs.Words.{Valid}
+use Rattle.answer_lines.specs.AnswerLines.{Written}
 use Rattle.records.specs.declared.Step.{Step}
 use Rattle.records.specs.Records.{Turn, stateIn}
-
-pub record Written (d : List ℕ) (at : ℕ) (s : List ℕ) (r : ℕ) (e : List ℕ) : Type 0 where
-  pub fits : at + length s ≤ length d
-  pub place : r ≡ at + length s
-  pub buffer : e ≡ stored d at s
 
 pub record Stepped (d : List ℕ) (at : ℕ) (u : Turn) (r : Step) (w e : List ℕ) : Type 0 where
   pub put : Written d at (u .line) (r .at) e

@@ -1,21 +1,13 @@
 // What one whole record of the bench program does (document 01, "The bench program"): it is carried out upon a lent table, and its line is put into a
-// lent buffer. A line has at most 40 octets.
-use election::Answer;
+// lent buffer by `answer_lines`.
+use answer_lines::LINE_ROOM;
 ghost use mathlib.Core.Path.{_≡_};
 ghost use mathlib.Core.Bool.{true, false};
 ghost use Prim.Native.Nat.{ℕ, _+_, _≤_, _/_};
 ghost use mathlib.Core.List.{List};
 ghost use lib.ListN.{length, take};
 ghost use Rattle.layout.specs.Words.{tableIn, Valid};
-ghost use Rattle.lines.specs.Lines.{Put};
 ghost use Rattle.records.specs.Records.{
-  badLine,
-  line,
-  offsetLine,
-  hasOffset,
-  readLine,
-  electedLine,
-  queryLine,
   badTurn,
   textTurn,
   announceTurn,
@@ -26,7 +18,7 @@ ghost use Rattle.records.specs.Records.{
   turn,
   stateIn,
 };
-ghost use Rattle.records.specs.Steps.{Written, Stepped, takes};
+ghost use Rattle.records.specs.Steps.{Stepped, takes};
 
 // Where a run stands: no record was taken, records are carried out, nothing more is looked at.
 pub enum Phase {
@@ -41,102 +33,18 @@ pub struct Step {
     pub at: usize,
 }
 
-// The room that any line finds enough.
-pub const LINE_ROOM: usize = 40;
-
 // The most octets that a record's payload has.
 const MAX_PAYLOAD: usize = 255;
 
 // The most ready addresses that are read from a query.
 const MAX_READY: usize = 64;
 
-// Puts the line of a letter and a number.
-fn put_line(out: &mut [u8], at: usize, letter: u8, number: u8) -> usize
-    requires { ⌜ at + 40 ≤ length (now out) ⌝ }
-    ensures { λ r. ⌜ Written (now (out .entry)) at (line letter number) r (now (out .exit)) ⌝ }
-{
-    let mut end = lines::put_octet(out, at, letter);
-    end = lines::put_octet(out, end, b' ');
-    end = lines::put_decimal(out, end, number as u64);
-    lines::put_octet(out, end, b'\n')
-}
-
-// Puts the line of a letter, a number and an offset.
-fn put_offset(out: &mut [u8], at: usize, letter: u8, number: u8, offset: usize) -> usize
-    requires { ⌜ at + 40 ≤ length (now out) ⌝ }
-    ensures { λ r. ⌜ Written (now (out .entry)) at (offsetLine letter number offset) r (now (out .exit)) ⌝ }
-{
-    let mut end = lines::put_octet(out, at, letter);
-    end = lines::put_octet(out, end, b' ');
-    end = lines::put_decimal(out, end, number as u64);
-    end = lines::put_octet(out, end, b' ');
-    end = lines::put_decimal(out, end, offset as u64);
-    lines::put_octet(out, end, b'\n')
-}
-
-// Whether an offset is printed after a number: after 1 to 4, 6 and 13.
-fn has_offset(number: u8) -> bool
-    ensures { λ r. ⌜ r ≡ hasOffset number ⌝ }
-{
-    match number {
-        1..=4 => true,
-        6 => true,
-        13 => true,
-        _ => false,
-    }
-}
-
-// Puts the line for what was read: its number, and its offset where one is printed.
-fn put_read(out: &mut [u8], at: usize, letter: u8, number: u8, offset: usize) -> usize
-    requires { ⌜ at + 40 ≤ length (now out) ⌝ }
-    ensures { λ r. ⌜ Written (now (out .entry)) at (readLine letter number offset) r (now (out .exit)) ⌝ }
-{
-    if has_offset(number) {
-        return put_offset(out, at, letter, number, offset);
-    }
-    put_line(out, at, letter, number)
-}
-
-// Puts the line of an accepted query.
-fn put_elected(out: &mut [u8], at: usize, address: u32, n: u32) -> usize
-    requires { ⌜ at + 40 ≤ length (now out) ⌝ }
-    ensures { λ r. ⌜ Written (now (out .entry)) at (electedLine address n) r (now (out .exit)) ⌝ }
-{
-    let mut end = lines::put_run(out, at, b"q 0 ");
-    end = lines::put_dotted(out, end, address);
-    end = lines::put_octet(out, end, b' ');
-    end = lines::put_decimal(out, end, n as u64);
-    lines::put_octet(out, end, b'\n')
-}
-
-// Puts the line of an election's answer.
-fn put_answer(out: &mut [u8], at: usize, r: Answer) -> usize
-    requires { ⌜ at + 40 ≤ length (now out) ⌝ }
-    ensures { λ e. ⌜ Written (now (out .entry)) at (queryLine r) e (now (out .exit)) ⌝ }
-{
-    let number = r.number;
-    if number != 0 {
-        return put_line(out, at, b'q', number);
-    }
-    let address = r.address;
-    let n = r.n;
-    put_elected(out, at, address, n)
-}
-
-// Puts the line of a bad record, `x 16`, from offset `at` on and answers the offset after it; where it does not fit, the buffer stays as it is and the
-// answer is `at`.
-pub fn put_bad(out: &mut [u8], at: usize) -> usize
-    ensures { λ r. ⌜ Put (now (out .entry)) at badLine r (now (out .exit)) ⌝ }
-{
-    lines::put_run(out, at, b"x 16\n")
-}
-
 // A bad record: its line is put, and the run ends. The table stays as it is, whatever its words are.
 fn refuse(out: &mut [u8], at: usize) -> Step
     requires { ⌜ at + 40 ≤ length (now out) ⌝ }
     ensures { λ r. ⌜ ((w : List ℕ) → Valid w → Stepped (now (out .entry)) at (badTurn (tableIn w)) r w (now (out .exit))) ⌝ }
 {
-    let end = put_bad(out, at);
+    let end = answer_lines::put_bad(out, at);
     Step {
         phase: Phase::Ended,
         at: end,
@@ -163,7 +71,7 @@ fn begin(t: &mut [u32], text: &[u8], out: &mut [u8], at: usize) -> Step
     let read = esi::read_text(text);
     let number = read.number;
     let offset = read.offset;
-    let end = put_read(out, at, b'p', number, offset);
+    let end = answer_lines::put_read(out, at, b'p', number, offset);
     if number != 0 {
         return Step {
             phase: Phase::Ended,
@@ -188,7 +96,7 @@ fn announce(t: &mut [u32], payload: &[u8], out: &mut [u8], at: usize) -> Step
     let verdict = segment::announce(t, &payload[..25], &payload[25..]);
     let number = verdict.number;
     let offset = verdict.offset;
-    let end = put_read(out, at, b'a', number, offset);
+    let end = answer_lines::put_read(out, at, b'a', number, offset);
     Step {
         phase: Phase::Running,
         at: end,
@@ -202,7 +110,7 @@ fn withdraw(t: &mut [u32], payload: &[u8], out: &mut [u8], at: usize) -> Step
 {
     let address = octets::u32_of(payload[0], payload[1], payload[2], payload[3]);
     let number = segment::withdraw(t, address);
-    let end = put_line(out, at, b'w', number);
+    let end = answer_lines::put_line(out, at, b'w', number);
     Step {
         phase: Phase::Running,
         at: end,
@@ -235,7 +143,7 @@ fn query(t: &[u32], payload: &[u8], out: &mut [u8], at: usize) -> Step
     let ready = addresses_in(rest);
     let n = rest.len() / 4;
     let answer = segment::elect(t, tag, &ready[..n]);
-    let end = put_answer(out, at, answer);
+    let end = answer_lines::put_answer(out, at, answer);
     Step {
         phase: Phase::Running,
         at: end,

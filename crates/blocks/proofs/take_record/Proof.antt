@@ -4,7 +4,8 @@ use native.Mathlib.Omega.{arith}
 use mathlib.Core.Path.{sym, _∙_}
 use Rattle.frames.proofs.Laws.{frame-told, found-length}
 use Rattle.records.specs.Records.{stateIn}
-use Rattle.records.proofs.Laws.{written, takes-room}
+use Rattle.answer_lines.proofs.Laws.{written}
+use Rattle.records.proofs.Laws.{takes-room}
 use Rattle.blocks.proofs.Blocks.{part-length, stopped-nothing, stopped-cut, advanced-none, advanced-bad, advanced-whole}
 use borrow.Author.Needs.{needs}
 use Rattle.blocks.proofs.take_record.Statement.{statement}

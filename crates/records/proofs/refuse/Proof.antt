@@ -1,7 +1,7 @@
 -- `refuse` meets its contract: the line `x 16` is written, and there is room for it. Assumes nothing.
 use native.Mathlib.Omega.{arith}
 use mathlib.Core.Path.{refl}
-use Rattle.records.proofs.Laws.{written}
+use Rattle.answer_lines.proofs.Laws.{written}
 use borrow.Author.Needs.{needs}
 use Rattle.records.proofs.refuse.Statement.{statement}
 use Rattle.records.proofs.refuse.Tie as tie

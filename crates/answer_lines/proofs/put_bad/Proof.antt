@@ -1,7 +1,7 @@
 -- `put_bad` meets its contract: the run of octets is the line. Assumes nothing.
 use borrow.Author.Needs.{needs}
-use Rattle.records.proofs.put_bad.Statement.{statement}
-use Rattle.records.proofs.put_bad.Tie as tie
+use Rattle.answer_lines.proofs.put_bad.Statement.{statement}
+use Rattle.answer_lines.proofs.put_bad.Tie as tie
 
 returns : tie.Need-returns
 returns c = c .before .before .put-run .ensures

@@ -1,9 +1,9 @@
 -- `has_offset` meets its contract: its match has the numbers after which an offset is printed. Assumes nothing.
 use native.Mathlib.Omega.{arith}
 use mathlib.Core.Path.{sym}
-use Rattle.records.proofs.Laws.{offset-first, offset-6, offset-13, no-offset-0, no-offset}
-use Rattle.records.proofs.has_offset.Statement.{statement}
-use Rattle.records.proofs.has_offset.Tie as tie
+use Rattle.answer_lines.proofs.Laws.{offset-first, offset-6, offset-13, no-offset-0, no-offset}
+use Rattle.answer_lines.proofs.has_offset.Statement.{statement}
+use Rattle.answer_lines.proofs.has_offset.Tie as tie
 
 returns : tie.Need-returns
 returns c = sym (offset-6 (c .before .args .number) (omega arith))

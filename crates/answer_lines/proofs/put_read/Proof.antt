@@ -1,9 +1,9 @@
 -- `put_read` meets its contract: which line that of what was read is. Assumes nothing.
 use mathlib.Core.Path.{sym, _∙_}
-use Rattle.records.proofs.Laws.{written-as, read-offset, read-none}
+use Rattle.answer_lines.proofs.Laws.{written-as, read-offset, read-none}
 use borrow.Author.Needs.{needs}
-use Rattle.records.proofs.put_read.Statement.{statement}
-use Rattle.records.proofs.put_read.Tie as tie
+use Rattle.answer_lines.proofs.put_read.Statement.{statement}
+use Rattle.answer_lines.proofs.put_read.Tie as tie
 
 returns : tie.Need-returns
 returns c =
