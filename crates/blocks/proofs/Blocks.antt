@@ -13,13 +13,14 @@ use Rattle.octets.specs.Octets.{stored}
 use Rattle.octets.proofs.Laws.{Octets, octets-take, octets-drop, stored-fits, stored-front, length-stored, front-next, front-all}
 use Rattle.frames.specs.Frames.{Front, nothing, bad, cut, whole, front}
 use Rattle.frames.proofs.Laws.{Found, nothing-empty, cut-length}
-use Rattle.records.specs.declared.Phase.{Phase}
-use Rattle.records.specs.declared.Phase.the-variants.{Ended}
-use Rattle.records.specs.declared.Step.{Step}
+use Rattle.turns.specs.declared.Phase.{Phase}
+use Rattle.turns.specs.declared.Phase.the-variants.{Ended}
+use Rattle.turns.specs.declared.Step.{Step}
 use Rattle.blocks.specs.declared.Progress.{Progress}
 use Rattle.answer_lines.specs.AnswerLines.{badLine, Written}
-use Rattle.records.specs.Records.{Bench, stateIn, turn, isEnd, hasEnded, runFrom, endOf}
-use Rattle.records.specs.Steps.{Stepped}
+use Rattle.turns.specs.Turns.{Bench, stateIn}
+use Rattle.turns.specs.Steps.{Stepped}
+use Rattle.records.specs.Records.{turn, isEnd, hasEnded, runFrom, endOf}
 use Rattle.blocks.specs.Blocks.{isPart, stopped, Advanced, Ran, Stopped, kept, lastOf, nextIn, Why, ended, full, part, BlockTaken}
 use Rattle.blocks.specs.declared.Taken.{Taken}
 use Rattle.blocks.specs.declared.Next.{Next}

@@ -13,10 +13,11 @@ use Rattle.frames.specs.Frames.{Front, nothing, bad, cut, whole, front}
 use Rattle.frames.proofs.Laws.{Found, cut-begun, nothing-empty, whole-record, whole-append, bad-append}
 use Rattle.lines.specs.Lines.{Put}
 use Rattle.lines.proofs.Laws.{put-made}
-use Rattle.records.specs.declared.Phase.{Phase}
-use Rattle.records.specs.declared.Phase.the-variants.{Start}
+use Rattle.turns.specs.declared.Phase.{Phase}
+use Rattle.turns.specs.declared.Phase.the-variants.{Start}
 use Rattle.answer_lines.specs.AnswerLines.{badLine}
-use Rattle.records.specs.Records.{Bench, stateIn, turn, isEnd, hasEnded, before, runFor, runFrom, first, runOf, endOf}
+use Rattle.turns.specs.Turns.{Bench, stateIn}
+use Rattle.records.specs.Records.{turn, isEnd, hasEnded, before, runFor, runFrom, first, runOf, endOf}
 
 -- ---- the start
 

@@ -25,9 +25,10 @@ use lib.ListN.{length, take, drop}
 use lib.Dec.{ltb}
 use Rattle.octets.specs.Octets.{stored}
 use Rattle.frames.specs.Frames.{Front, nothing, bad, cut, whole, front}
-use Rattle.records.specs.declared.Phase.{Phase}
+use Rattle.turns.specs.declared.Phase.{Phase}
 use Rattle.answer_lines.specs.AnswerLines.{Written}
-use Rattle.records.specs.Records.{Bench, isEnd, hasEnded, runFrom}
+use Rattle.turns.specs.Turns.{Bench}
+use Rattle.records.specs.Records.{isEnd, hasEnded, runFrom}
 use Rattle.blocks.specs.declared.Progress.{Progress}
 use Rattle.blocks.specs.declared.Next.{Next}
 use Rattle.blocks.specs.declared.Next.the-variants.{Done, Again, Read}

@@ -2,8 +2,8 @@
 // records are whole and their lines find room, and what is left over is kept at the block's front. Reading and writing is the program's.
 use answer_lines::LINE_ROOM;
 use frames::Frame;
-use records::Phase;
 use table::WORDS;
+use turns::Phase;
 ghost use mathlib.Core.Path.{_≡_};
 ghost use mathlib.Core.Bool.{true, false};
 ghost use Prim.Native.Nat.{ℕ, _+_, _-_, _≤_, min};
@@ -14,7 +14,8 @@ ghost use Rattle.layout.specs.Table.{Table};
 ghost use Rattle.layout.specs.Words.{Valid};
 ghost use Rattle.frames.specs.Frames.{front};
 ghost use Rattle.lines.specs.Lines.{Put};
-ghost use Rattle.records.specs.Records.{isEnd, stateIn, first, endOf, runFrom, runOf};
+ghost use Rattle.turns.specs.Turns.{stateIn};
+ghost use Rattle.records.specs.Records.{isEnd, first, endOf, runFrom, runOf};
 ghost use Rattle.blocks.specs.Blocks.{isPart, Advanced, Ran, Stopped, kept, nextIn, BlockTaken};
 
 // The state in which a run starts: the phase, and the words of the table that the run is then lent.

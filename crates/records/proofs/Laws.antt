@@ -1,21 +1,12 @@
--- Laws of a record's turn: words copied, and whether a record is taken. Assumes nothing.
+-- Laws of whether a record is taken. Assumes nothing.
 use Prim.Native.Nat.{ℕ, _+_, _≤_, _<_}
-use native.Mathlib.Omega.{arith}
-use mathlib.Core.Path.{_≡_, refl, ap, _∙_}
+use mathlib.Core.Path.{_≡_, refl}
 use mathlib.Core.Bool.{Bool, true, false, _&&_}
-use mathlib.Core.List.{List, _++_, append-nil}
-use lib.ListN.{length, take, drop, drop-of-length-le}
+use mathlib.Core.List.{List}
+use lib.ListN.{length}
 use lib.Dec.{leb}
 use borrow.Author.Tests.{le-leb, lt-leb}
-use Rattle.octets.proofs.Laws.{front-all}
-use Rattle.records.specs.Steps.{takes}
-
--- ---- words copied
-
-pub copied : (d s : List ℕ) (n : ℕ) → length s ≡ n → length d ≡ n → take n s ++ drop n d ≡ s
-copied d s n e l = front-all d s n e ∙ ap (s ++_) (drop-of-length-le d {i = n} (omega arith)) ∙ append-nil s
-
--- ---- whether a record is taken
+use Rattle.records.specs.Records.{takes}
 
 and-false : (t : Bool) → (t && false) ≡ false
 and-false true = refl

@@ -3,7 +3,7 @@ use Prim.Native.Nat.{_+_}
 use native.Mathlib.Omega.{arith}
 use mathlib.Core.Path.{sym, _∙_}
 use Rattle.frames.proofs.Laws.{frame-told, found-length}
-use Rattle.records.specs.Records.{stateIn}
+use Rattle.turns.specs.Turns.{stateIn}
 use Rattle.answer_lines.proofs.Laws.{written}
 use Rattle.records.proofs.Laws.{takes-room}
 use Rattle.blocks.proofs.Blocks.{part-length, stopped-nothing, stopped-cut, advanced-none, advanced-bad, advanced-whole}

@@ -3,12 +3,12 @@ use Prim.Native.Nat.{_-_}
 use mathlib.Core.Path.{sym, _∙_, ap}
 use lib.ListN.{length, take, drop, length-drop}
 use Rattle.octets.specs.Octets.{numberOf}
-use Rattle.records.specs.Records.{wordsIn}
-use Rattle.records.proofs.Words.{length-words}
-use Rattle.records.proofs.Turns.{four-front, take-of-all, stepped-query}
+use Rattle.turns.specs.Turns.{wordsIn}
+use Rattle.turns.proofs.Words.{length-words}
+use Rattle.turns.proofs.Laws.{four-front, take-of-all, stepped-query}
 use borrow.Author.Needs.{needs}
-use Rattle.records.proofs.query.Statement.{statement}
-use Rattle.records.proofs.query.Tie as tie
+use Rattle.turns.proofs.query.Statement.{statement}
+use Rattle.turns.proofs.query.Tie as tie
 
 slice-aggregate-elect : tie.Need-slice-aggregate-elect
 slice-aggregate-elect c =

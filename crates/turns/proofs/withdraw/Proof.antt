@@ -2,10 +2,10 @@
 use mathlib.Core.Path.{ap, _∙_}
 use Rattle.octets.specs.Octets.{numberOf}
 use Rattle.layout.specs.Words.{tableIn}
-use Rattle.records.proofs.Turns.{four, stepped-withdraw}
+use Rattle.turns.proofs.Laws.{four, stepped-withdraw}
 use borrow.Author.Needs.{needs}
-use Rattle.records.proofs.withdraw.Statement.{statement}
-use Rattle.records.proofs.withdraw.Tie as tie
+use Rattle.turns.proofs.withdraw.Statement.{statement}
+use Rattle.turns.proofs.withdraw.Tie as tie
 
 returns : tie.Need-returns
 returns c =

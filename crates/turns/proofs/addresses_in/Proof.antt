@@ -6,10 +6,10 @@ use mathlib.Core.List.{_++_}
 use lib.ListN.{length, take, drop, replicate}
 use borrow.Author.Needs.{needs}
 use Rattle.octets.proofs.Laws.{front-next}
-use Rattle.records.specs.Records.{wordsIn}
-use Rattle.records.proofs.Words.{length-words, getD-words, words-front}
-use Rattle.records.proofs.addresses_in.Statement.{statement}
-use Rattle.records.proofs.addresses_in.Tie as tie
+use Rattle.turns.specs.Turns.{wordsIn}
+use Rattle.turns.proofs.Words.{length-words, getD-words, words-front}
+use Rattle.turns.proofs.addresses_in.Statement.{statement}
+use Rattle.turns.proofs.addresses_in.Tie as tie
 
 abbrev Inv-loop : tie.InvT-loop
 Inv-loop s ready₀ n i₀ ready i = (i ≤ n) × (n ≡ length s / 4) × (n ≤ 64) × (ready ≡ take i (wordsIn s) ++ drop i (replicate 64 0))

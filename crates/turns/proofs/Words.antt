@@ -6,7 +6,7 @@ use mathlib.Core.List.{List, [], _∷_, _++_}
 use lib.ListN.{length, getD, take}
 use lib.Seq.{take-append-seam, take-all}
 use Rattle.octets.specs.Octets.{numberOf}
-use Rattle.records.specs.Records.{wordsIn}
+use Rattle.turns.specs.Turns.{wordsIn}
 
 pub length-words : (s : List ℕ) → length (wordsIn s) ≡ length s / 4
 unfolding wordsIn

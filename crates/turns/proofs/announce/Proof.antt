@@ -2,10 +2,10 @@
 use mathlib.Core.Path.{sym}
 use lib.Seq.{length-take-le}
 use Rattle.layout.specs.Words.{tableIn}
-use Rattle.records.proofs.Turns.{stepped-announce}
+use Rattle.turns.proofs.Laws.{stepped-announce}
 use borrow.Author.Needs.{needs}
-use Rattle.records.proofs.announce.Statement.{statement}
-use Rattle.records.proofs.announce.Tie as tie
+use Rattle.turns.proofs.announce.Statement.{statement}
+use Rattle.turns.proofs.announce.Tie as tie
 
 slice-aggregate-announce : tie.Need-slice-aggregate-announce
 slice-aggregate-announce c = sym (length-take-le 25 (c .before .before .before .before .before .args .payload .now) (c .before .before .before .before .before .pre .1))

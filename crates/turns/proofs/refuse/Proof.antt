@@ -3,8 +3,8 @@ use native.Mathlib.Omega.{arith}
 use mathlib.Core.Path.{refl}
 use Rattle.answer_lines.proofs.Laws.{written}
 use borrow.Author.Needs.{needs}
-use Rattle.records.proofs.refuse.Statement.{statement}
-use Rattle.records.proofs.refuse.Tie as tie
+use Rattle.turns.proofs.refuse.Statement.{statement}
+use Rattle.turns.proofs.refuse.Tie as tie
 
 returns : tie.Need-returns
 returns c =
