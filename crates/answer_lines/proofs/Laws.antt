@@ -11,7 +11,7 @@ use borrow.Author.Tests.{eq-eqb, ne-eqb, le-leb, lt-leb}
 use Rattle.election.specs.declared.Answer.{Answer}
 use Rattle.octets.proofs.Laws.{stored-fits}
 use Rattle.lines.specs.Lines.{decimal, dotted, Put}
-use Rattle.lines.proofs.Laws.{put-place, put-all, length-decimal, length-decimal-octet, length-dotted}
+use Rattle.lines.proofs.Laws.{put-position, put-all, length-decimal, length-decimal-octet, length-dotted}
 use Rattle.answer_lines.specs.AnswerLines.{line, offsetLine, hasOffset, readLine, electedLine, queryLine, Written}
 
 -- ---- lines
@@ -79,7 +79,7 @@ query-accepted r h = rw (eq-eqb (r .number) 0 h)
 
 -- what is put where there is room is written
 pub written : {d : List ℕ} {at : ℕ} {s : List ℕ} {r : ℕ} {e : List ℕ} → Put d at s r e → at + length s ≤ length d → Written d at s r e
-written p h = record { fits = h; place = put-place p h; buffer = p .buffer }
+written p h = record { fits = h; position = put-position p h; buffer = p .buffer }
 
 -- pieces that are put one after another are written as a whole
 pub written-all : {d : List ℕ} {at : ℕ} {s : List ℕ} {r : ℕ} {e t : List ℕ}
@@ -93,4 +93,4 @@ written-as {d} {at} {s} {t} {r} {e} w q = subst (λ (l : List ℕ). Written d at
 -- no octets written into a buffer
 pub written-none : (d : List ℕ) (at : ℕ) → at ≤ length d → Written d at [] at d
 written-none d at h =
-    record { fits = omega arith; place = omega arith; buffer = sym (stored-fits d at [] (omega arith) ∙ rw (add-zero, append-nil) (take-append-drop at d)) }
+    record { fits = omega arith; position = omega arith; buffer = sym (stored-fits d at [] (omega arith) ∙ rw (add-zero, append-nil) (take-append-drop at d)) }

@@ -7,8 +7,8 @@
 --   badLine            == the line `x 16`
 --   electedLine a n    == the line of an accepted query
 --   queryLine r        == the line of the election's answer r
---   Written d at s r e == the octets s, for which there was room, are put at offset `at` of the buffer that held d, which then holds e; r is the
---                         offset after them
+--   Written d at s r e == the octets s, for which there was room, are put at position `at` of the buffer that held d, which then holds e; r is the
+--                         position after them
 use Prim.Native.Nat.{ℕ, _+_, _≤_}
 use mathlib.Core.Path.{_≡_}
 use mathlib.Core.Bool.{Bool, cond, _&&_, _||_}
@@ -43,5 +43,5 @@ queryLine r = cond (eqb (r .number) 0) (electedLine (r .address) (r .n)) (line 1
 
 pub record Written (d : List ℕ) (at : ℕ) (s : List ℕ) (r : ℕ) (e : List ℕ) : Type 0 where
   pub fits : at + length s ≤ length d
-  pub place : r ≡ at + length s
+  pub position : r ≡ at + length s
   pub buffer : e ≡ stored d at s

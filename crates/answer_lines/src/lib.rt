@@ -91,8 +91,8 @@ pub fn put_answer(out: &mut [u8], at: usize, r: Answer) -> usize
     put_elected(out, at, address, n)
 }
 
-// Puts the line of a bad record, `x 16`, from offset `at` on and answers the offset after it; where it does not fit, the buffer stays as it is and the
-// answer is `at`.
+// Puts the line of a bad record, `x 16`, from position `at` on and answers the position after it; where it does not fit, the buffer stays as it is
+// and the answer is `at`.
 pub fn put_bad(out: &mut [u8], at: usize) -> usize
     ensures { λ r. ⌜ Put (now (out .entry)) at badLine r (now (out .exit)) ⌝ }
 {

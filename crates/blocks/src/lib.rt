@@ -1,5 +1,5 @@
-// Blocks of input taken record by record (document 01, "The bench program"): what stands at a place of the block is taken by `records`, as long as the
-// records are whole and their lines find room, and what is left over is kept at the block's front. Reading and writing is the program's.
+// Blocks of input taken record by record (document 01, "The bench program"): what stands at a position of the block is taken by `records`, as long as
+// the records are whole and their lines find room, and what is left over is kept at the block's front. Reading and writing is the program's.
 use answer_lines::LINE_ROOM;
 use frames::Frame;
 use table::WORDS;
@@ -89,7 +89,7 @@ pub fn finish(phase: Phase, rest: &[u8], out: &mut [u8]) -> usize
     answer_lines::put_bad(out, 0)
 }
 
-// One record at place `used` of the input, or none, where the octets from there on hold no whole record.
+// One record at position `used` of the input, or none, where the octets from there on hold no whole record.
 fn take_record(
     t: &mut [u32],
     phase: Phase,
@@ -187,8 +187,8 @@ fn least(a: usize, b: usize) -> usize
     b
 }
 
-// Moves the octets of a block that were not used to its front: those from place `used` up to place `filled`, where a place past the end counts as
-// the end. The other places stay as they are. Answers how many octets were moved.
+// Moves the octets of a block that were not used to its front: those from position `used` up to position `filled`, where a position past the end counts
+// as the end. The other octets stay as they are. Answers how many octets were moved.
 fn keep(block: &mut [u8], used: usize, filled: usize) -> usize
     ensures count { λ r. ⌜ r ≡ length (kept (now (block .entry)) used filled) ⌝ }
     ensures moved { λ _. ⌜ now (block .exit) ≡ stored (now (block .entry)) 0 (kept (now (block .entry)) used filled) ⌝ }

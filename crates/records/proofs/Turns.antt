@@ -10,7 +10,7 @@ use Rattle.layout.specs.Words.{tableIn, Valid}
 use Rattle.answer_lines.proofs.Laws.{written-none}
 use Rattle.turns.specs.declared.Phase.{Phase}
 use Rattle.turns.specs.declared.Phase.the-variants.{Start, Running, Ended}
-use Rattle.turns.specs.Turns.{Turn, stateIn, ended, badTurn, textTurn, announceTurn, withdrawTurn, queryTurn}
+use Rattle.turns.specs.Turns.{Turn, stateIn, atEnd, badTurn, textTurn, announceTurn, withdrawTurn, queryTurn}
 use Rattle.turns.specs.Steps.{Stepped}
 use Rattle.turns.proofs.Laws.{stepped-as}
 use Rattle.records.specs.Records.{laterTurn, turnIn}
@@ -70,5 +70,5 @@ pub stepped-ended : (h : Phase) (v : List ℕ) (k : ℕ) (p d : List ℕ) (at : 
     → Stepped d at (turnIn h (tableIn v) k p) (record { phase = h; at = at }) v d
 unfolding turnIn
 stepped-ended h v k p d at e l w =
-    let q : _≡_ {A = Turn} (record { line = []; next = ended (tableIn v) }) (turnIn h (tableIn v) k p) = rw e in
+    let q : _≡_ {A = Turn} (record { line = []; next = atEnd (tableIn v) }) (turnIn h (tableIn v) k p) = rw e in
     stepped-as (record { put = written-none d at l; next = ap (λ (f : Phase). stateIn f v) e; kept = w }) q

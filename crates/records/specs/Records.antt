@@ -10,7 +10,7 @@
 --   first              == the state at the start
 --   runOf s            == the whole output for the input s
 --   endOf h s          == what is printed in the phase h where the input ends with the octets s, which are no whole record
---   takes d at p       == whether a record with the payload p is taken with its line at offset `at` of a buffer that holds d: there is room for any
+--   takes d at p       == whether a record with the payload p is taken with its line at position `at` of a buffer that holds d: there is room for any
 --                         line, and the payload has at most 255 octets
 use Prim.Native.Nat.{ℕ, zero, suc, _+_, _%_}
 use mathlib.Core.Bool.{Bool, true, false, cond, _&&_}
@@ -23,7 +23,7 @@ use Rattle.frames.specs.Frames.{Front, nothing, bad, cut, whole, front}
 use Rattle.answer_lines.specs.AnswerLines.{badLine}
 use Rattle.turns.specs.declared.Phase.{Phase}
 use Rattle.turns.specs.declared.Phase.the-variants.{Start, Running, Ended}
-use Rattle.turns.specs.Turns.{Bench, Turn, ended, badTurn, textTurn, announceTurn, withdrawTurn, queryTurn}
+use Rattle.turns.specs.Turns.{Bench, Turn, atEnd, badTurn, textTurn, announceTurn, withdrawTurn, queryTurn}
 
 -- WHICH TURN A RECORD'S IS
 -- kinds 1 to 3: an announcement of at least 25 octets, a withdrawal of 4, a query of a multiple of 4 and at least 4
@@ -38,7 +38,7 @@ laterTurn t k p =
 unfoldable pub turnIn : Phase → Table → ℕ → List ℕ → Turn
 turnIn Start t k p = cond (eqb k 0) (textTurn t p) (badTurn t)
 turnIn Running t k p = laterTurn t k p
-turnIn Ended t k p = record { line = []; next = ended t }
+turnIn Ended t k p = record { line = []; next = atEnd t }
 
 abbrev pub turn : Bench → ℕ → List ℕ → Turn
 turn b k p = turnIn (b .phase) (b .table) k p

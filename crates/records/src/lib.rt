@@ -68,7 +68,7 @@ fn carry_out(
     }
 }
 
-// One whole record, in any state: its line is put from offset `at` on. Where fewer than 40 octets are left there, or where the payload has more than
+// One whole record, in any state: its line is put from position `at` on. Where fewer than 40 octets are left there, or where the payload has more than
 // 255 octets, which no frame holds, nothing is done: the answer is `phase` and `at`, and the table and the buffer stay as they are.
 pub fn take_turn(
     t: &mut [u32],

@@ -30,7 +30,7 @@ getD-words (a ∷ b ∷ c ∷ d ∷ s) (suc i) h =
     rw (at (4 * suc i) (4 * i) (omega arith), at (4 * suc i + 1) (4 * i + 1) (omega arith), at (4 * suc i + 2) (4 * i + 2) (omega arith), at (4 * suc i + 3) (4 * i + 3) (omega arith))
     (getD-words s i (omega arith))
 
--- the front of an array whose first places are the addresses
+-- the front of an array that starts with the addresses
 pub words-front : (s l : List ℕ) (n : ℕ) → n ≡ length s / 4 → take n (take n (wordsIn s) ++ l) ≡ wordsIn s
 words-front s l n e =
     let q : length (wordsIn s) ≡ n = length-words s ∙ sym e in

@@ -1,6 +1,6 @@
 -- What a turn that is taken promises (document 01, "The bench program").
---   Stepped d at u r w e == the turn u was taken: its line is written at offset `at` of the buffer that held d, which then holds e; the phase in the
---                           answer r and the table in the words w are the state after it, and r holds the offset after the line
+--   Stepped d at u r w e == the turn u was taken: its line is written at position `at` of the buffer that held d, which then holds e; the phase in the
+--                           answer r and the table in the words w are the state after it, and r holds the position after the line
 use Prim.Native.Nat.{ℕ}
 use mathlib.Core.Path.{_≡_}
 use mathlib.Core.List.{List}

@@ -4,7 +4,7 @@
 --   Turn               == what one record does: the line that is printed, and the state after it
 --   stateIn h w        == the state of the phase h with the table that lies in the words w
 --   running t          == the state in which records are carried out upon the table t
---   ended t            == the state in which nothing more is looked at
+--   atEnd t            == the state in which nothing more is looked at
 --   badTurn t          == a bad record's turn
 --   textTurn t p       == the turn of the first record, the text p (a plate in document 01)
 --   announceTurn t p   == the turn of an announcement: 25 route octets, then communities
@@ -41,18 +41,18 @@ stateIn h w = record { phase = h; table = tableIn w }
 abbrev pub running : Table → Bench
 running t = record { phase = Running; table = t }
 
-abbrev pub ended : Table → Bench
-ended t = record { phase = Ended; table = t }
+abbrev pub atEnd : Table → Bench
+atEnd t = record { phase = Ended; table = t }
 
 -- TURNS
 abbrev pub badTurn : Table → Turn
-badTurn t = record { line = badLine; next = ended t }
+badTurn t = record { line = badLine; next = atEnd t }
 
 -- a refused plate prints its line and ends
 unfoldable pub textTurn : Table → List ℕ → Turn
 textTurn t p = record {
   line = readLine 112 (readText p .number) (readText p .offset);
-  next = cond (eqb (readText p .number) 0) (running (freshTable (readText p .esi) .table)) (ended t);
+  next = cond (eqb (readText p .number) 0) (running (freshTable (readText p .esi) .table)) (atEnd t);
 }
 
 unfoldable pub announceTurn : Table → List ℕ → Turn

@@ -15,7 +15,7 @@ pub enum Phase {
     Ended,
 }
 
-// The phase after a record, and the offset after its line.
+// The phase after a record, and the position after its line.
 pub struct Step {
     pub phase: Phase,
     pub at: usize,
