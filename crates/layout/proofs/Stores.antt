@@ -12,7 +12,7 @@ use Rattle.lists.proofs.Bools.{bit-eqb}
 use Rattle.lists.proofs.Lists.{set-append-add, map-set}
 use Rattle.address.specs.Address.{addressRow}
 use Rattle.address.proofs.Laws.{row-length, row-back}
-use Rattle.keyed.specs.Keyed.{spliced, cut}
+use Rattle.keyed.specs.Keyed.{spliced, dropAt}
 use Rattle.keyed.proofs.Keyed as keyed
 use Rattle.rows.specs.Rows.{column, inserted, removed}
 use Rattle.rows.proofs.Columns.{length-column, column-inserted, column-removed, column-set}
@@ -133,17 +133,17 @@ module _ (b i : List ℕ) (es : List Entry) (short : length es ≤ 64) (whole : 
   -- ONE ENTRY LESS
   module _ (at : ℕ) (l : at < length es) where
     abbrev less : List Entry
-    less = cut es at
+    less = dropAt es at
 
     length-less : length less ≡ length es - 1
-    length-less = omega (arith, keyed.length-cut es at l)
+    length-less = omega (arith, keyed.length-dropAt es at l)
 
     first-shrunk : (g : List ℕ) → g ≡ removed 1 (length es) at b → Parts g less es (length es)
     first-shrunk g q =
         let n = length-map es rowOf in
         q ∙ rw (parts, ← n)
         (column-removed 1 64 (addressColumn es) _ (wide-addresses es) at (omega (arith, n)) (omega (arith, n, short))
-        ∙ ap (λ (c : List (List ℕ)). column 1 64 c ++ (column 1 64 (attributeColumn es) ++ tail (length (addressColumn es)))) (sym (keyed.map-cut rowOf es at)))
+        ∙ ap (λ (c : List (List ℕ)). column 1 64 c ++ (column 1 64 (attributeColumn es) ++ tail (length (addressColumn es)))) (sym (keyed.map-dropAt rowOf es at)))
 
     second-shrunk : (g d : List ℕ) → Parts g less es (length es) → d ≡ removed 1 (length es) at (drop 64 g)
         → set (take 64 g ++ d) 128 (length es - 1) ≡ wordsOf (tableOf i less)
@@ -154,7 +154,7 @@ module _ (b i : List ℕ) (es : List Entry) (short : length es ≤ 64) (whole : 
         let v : d ≡ column 1 64 (attributeColumn less) ++ tail (length es) =
         q ∙ rw (behind g less es (length es) m p, ← n)
         (column-removed 1 64 (attributeColumn es) (tail (length (attributeColumn es))) (wide-attributes es) at (omega (arith, n)) (omega (arith, n, short))
-        ∙ ap (λ (c : List (List ℕ)). column 1 64 c ++ tail (length (attributeColumn es))) (sym (keyed.map-cut wordOf es at))) in
+        ∙ ap (λ (c : List (List ℕ)). column 1 64 c ++ tail (length (attributeColumn es))) (sym (keyed.map-dropAt wordOf es at))) in
         rw (before g less es (length es) m p, v, counted less less (length es) (length es - 1) m m, length-less)
 
     pub shrunk-words : (n : ℕ) (g d : List ℕ) → n ≡ length es → g ≡ removed 1 n at b → d ≡ removed 1 n at (take (length g - 64) (drop 64 g))
