@@ -12,28 +12,30 @@ use borrow.Author.Tests.{lt-ltb, le-ltb, ltb-true, ltb-false, leb-true, leb-fals
 use Rattle.octets.specs.Octets.{stored}
 use Rattle.octets.proofs.Laws.{Octets, octets-take, octets-drop, stored-fits, stored-front, length-stored, front-next, front-all}
 use Rattle.frames.specs.Frames.{Front, nothing, bad, cut, whole, front}
-use Rattle.frames.proofs.Laws.{Found, nothing-empty, cut-length}
-use Rattle.records.specs.declared.Phase.{Phase}
-use Rattle.records.specs.declared.Phase.the-variants.{Ended}
-use Rattle.records.specs.declared.Step.{Step}
+use Rattle.frames.proofs.Laws.{WholeAt, nothing-empty, cut-length}
+use Rattle.turns.specs.declared.Phase.{Phase}
+use Rattle.turns.specs.declared.Phase.the-variants.{Ended}
+use Rattle.turns.specs.declared.Step.{Step}
 use Rattle.blocks.specs.declared.Progress.{Progress}
-use Rattle.records.specs.Records.{Bench, stateIn, badLine, turn, isEnd, hasEnded, runFrom, endOf}
-use Rattle.records.specs.Steps.{Written, Stepped}
+use Rattle.answer_lines.specs.AnswerLines.{badLine, Written}
+use Rattle.turns.specs.Turns.{Bench, stateIn}
+use Rattle.turns.specs.Steps.{Stepped}
+use Rattle.records.specs.Records.{turn, isEnd, hasEnded, runFrom, endOf}
 use Rattle.blocks.specs.Blocks.{isPart, stopped, Advanced, Ran, Stopped, kept, lastOf, nextIn, Why, ended, full, part, BlockTaken}
 use Rattle.blocks.specs.declared.Taken.{Taken}
 use Rattle.blocks.specs.declared.Next.{Next}
 use Rattle.blocks.specs.declared.Next.the-variants.{Done, Again, Read}
-use Rattle.blocks.proofs.Runs.{run-ended, run-found, run-spoilt, end-ended, run-end-nothing, run-end-cut}
-use Rattle.records.proofs.Laws.{written-none}
+use Rattle.blocks.proofs.Runs.{run-ended, run-whole-at, run-spoilt, end-ended, run-end-nothing, run-end-cut}
+use Rattle.answer_lines.proofs.Laws.{written-none}
 
--- ---- octets written at a place: those before it and they themselves, and those after
+-- ---- octets written at a position: those before it and they themselves, and those after
 
 module _ {d : List ℕ} {at : ℕ} {s : List ℕ} {r : ℕ} {e : List ℕ} (w : Written d at s r e) where
   upto : length (take at d ++ s) ≡ r
-  upto = simp length-append (rw (length-take-le at d (omega (arith, w .fits))) (sym (w .place)))
+  upto = simp length-append (rw (length-take-le at d (omega (arith, w .fits))) (sym (w .position)))
 
   laid : e ≡ (take at d ++ s) ++ drop r d
-  laid = w .buffer ∙ stored-fits d at s (w .fits) ∙ rw (w .place)
+  laid = w .buffer ∙ stored-fits d at s (w .fits) ∙ rw (w .position)
 
   written-upto : take r e ≡ take at d ++ s
   written-upto = ap (take r) laid ∙ take-at (take at d ++ s) (drop r d) r upto
@@ -97,7 +99,7 @@ module _ (b : Bench) (s : List ℕ) (i : ℕ) (d : List ℕ) (w : ℕ) (h : i �
         still = λ z. stopped-ended c (drop (length s) s) (length d - n) refl;
       }
 
-  pub advanced-whole : (k start len : ℕ) (x : Step) (v e : List ℕ) → hasEnded b ≡ false → Found s i k start len
+  pub advanced-whole : (k start len : ℕ) (x : Step) (v e : List ℕ) → hasEnded b ≡ false → WholeAt s i k start len
       → Stepped d w (turn b k (take (start + len - start) (drop start s))) x v e
       → Advanced b s i d w (record { phase = x .phase; used = start + len; wrote = x .at }) (stateIn (x .phase) v) e
   advanced-whole k start len x v e n f t₀ =
@@ -109,7 +111,7 @@ module _ (b : Bench) (s : List ℕ) (i : ℕ) (d : List ℕ) (w : ℕ) (h : i �
         put = t .put;
         used = f .fits;
         forward = omega (arith, f .begins);
-        run = λ r. run-found b s r n f ∙ ap (λ (c : Bench). u .line ++ runFrom c (drop (start + len) s ++ r)) (sym (t .next));
+        run = λ r. run-whole-at b s r n f ∙ ap (λ (c : Bench). u .line ++ runFrom c (drop (start + len) s ++ r)) (sym (t .next));
         still = λ z. absurd (omega (arith, f .begins, z));
       }
 
@@ -124,13 +126,13 @@ ran-next {b} {s} {d} {p} {b₁} {e} {q} {b₂} {f} l m a =
     let n = length (a .line) in
     record {
       used = a .used;
-      wrote = omega (arith, a .put .fits, a .put .place, l);
+      wrote = omega (arith, a .put .fits, a .put .position, l);
       run = λ r. m .run r
           ∙ ap (take (p .wrote) e ++_) (a .run r)
           ∙ sym (append-assoc (take (p .wrote) e) (a .line) (runFrom b₂ (drop (q .used) s ++ r)))
           ∙ ap (λ (x : List ℕ). x ++ runFrom b₂ (drop (q .used) s ++ r)) (sym (written-upto (a .put)));
       others = written-after (a .put)
-          ∙ rw (a .put .place, ← drop-drop n (p .wrote) e, ← drop-drop n (p .wrote) d) (ap (drop n) (m .others));
+          ∙ rw (a .put .position, ← drop-drop n (p .wrote) e, ← drop-drop n (p .wrote) d) (ap (drop n) (m .others));
     }
 
 -- where the last step took no record, there was a reason

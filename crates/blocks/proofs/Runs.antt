@@ -10,12 +10,14 @@ use Rattle.octets.proofs.Laws.{stored-front}
 use Rattle.layout.specs.Table.{Table}
 use Rattle.table.specs.Table.{freshTable, Told}
 use Rattle.frames.specs.Frames.{Front, nothing, bad, cut, whole, front}
-use Rattle.frames.proofs.Laws.{Found, cut-begun, nothing-empty, whole-record, whole-append, bad-append}
+use Rattle.frames.proofs.Laws.{WholeAt, cut-begun, nothing-empty, whole-record, whole-append, bad-append}
 use Rattle.lines.specs.Lines.{Put}
 use Rattle.lines.proofs.Laws.{put-made}
-use Rattle.records.specs.declared.Phase.{Phase}
-use Rattle.records.specs.declared.Phase.the-variants.{Start}
-use Rattle.records.specs.Records.{Bench, badLine, stateIn, turn, isEnd, hasEnded, before, runFor, runFrom, first, runOf, endOf}
+use Rattle.turns.specs.declared.Phase.{Phase}
+use Rattle.turns.specs.declared.Phase.the-variants.{Start}
+use Rattle.answer_lines.specs.AnswerLines.{badLine}
+use Rattle.turns.specs.Turns.{Bench, stateIn}
+use Rattle.records.specs.Records.{turn, isEnd, hasEnded, before, runFor, runFrom, first, runOf, endOf}
 
 -- ---- the start
 
@@ -102,10 +104,10 @@ run-cut b (x ∷ s) h e = rw (h, e)
 
 -- ---- with octets that follow
 
--- a whole record at a place
-pub run-found : (b : Bench) (s rest : List ℕ) {at k start len : ℕ} → hasEnded b ≡ false → Found s at k start len
+-- a whole record at a position
+pub run-whole-at : (b : Bench) (s rest : List ℕ) {at k start len : ℕ} → hasEnded b ≡ false → WholeAt s at k start len
     → runFrom b (drop at s ++ rest) ≡ turn b k (take len (drop start s)) .line ++ runFrom (turn b k (take len (drop start s)) .next) (drop (start + len) s ++ rest)
-run-found b s rest {at} h f = run-whole b (drop at s ++ rest) h (whole-append (drop at s) rest (f .stands))
+run-whole-at b s rest {at} h f = run-whole b (drop at s ++ rest) h (whole-append (drop at s) rest (f .stands))
 
 -- a bad record
 pub run-spoilt : (b : Bench) (s rest : List ℕ) → hasEnded b ≡ false → front s ≡ bad → runFrom b (s ++ rest) ≡ badLine

@@ -3,14 +3,14 @@
 --   stopped b s n           == whether no record is taken from the state b with the octets s left and room for n octets: the run has ended, the room is
 --                              less than 40, or s is no whole record yet
 --   Advanced b s i d w p q e
---                           == from the state b, at place i of the input s, one record or none was taken: its line is written at place w of the
+--                           == from the state b, at position i of the input s, one record or none was taken: its line is written at position w of the
 --                              buffer that held d, which then holds e, and whatever follows s, the run is that line and then the run from the
---                              state q at the place that p says
+--                              state q at the position that p says
 --   Ran b s d p q e         == from the state b, records of the input s were taken: what they print stands in the first octets of the buffer that held d,
 --                              which then holds e, its other octets as they were; and whatever follows s, the run is that and then the run from the
---                              state q at the place that p says
---   Stopped s d p q         == whether the run had to stop in the state q at the place that p says, with the input s and a buffer of the length of d
---   kept s i n              == the octets from place i up to place n of s
+--                              state q at the position that p says
+--   Stopped s d p q         == whether the run had to stop in the state q at the position that p says, with the input s and a buffer of the length of d
+--   kept s i n              == the octets from position i up to position n of s
 --   lastOf k s              == the last k octets of s
 --   nextIn h n              == what is to be done next, in the phase h with room for n octets left
 --   Why q s n x             == why no more is taken in the state q, with the octets s left and room for n octets, where x is to be done next
@@ -25,9 +25,10 @@ use lib.ListN.{length, take, drop}
 use lib.Dec.{ltb}
 use Rattle.octets.specs.Octets.{stored}
 use Rattle.frames.specs.Frames.{Front, nothing, bad, cut, whole, front}
-use Rattle.records.specs.declared.Phase.{Phase}
-use Rattle.records.specs.Records.{Bench, isEnd, hasEnded, runFrom}
-use Rattle.records.specs.Steps.{Written}
+use Rattle.turns.specs.declared.Phase.{Phase}
+use Rattle.answer_lines.specs.AnswerLines.{Written}
+use Rattle.turns.specs.Turns.{Bench}
+use Rattle.records.specs.Records.{isEnd, hasEnded, runFrom}
 use Rattle.blocks.specs.declared.Progress.{Progress}
 use Rattle.blocks.specs.declared.Next.{Next}
 use Rattle.blocks.specs.declared.Next.the-variants.{Done, Again, Read}

@@ -1,9 +1,9 @@
-// Blocks of input taken record by record (document 01, "The bench program"): what stands at a place of the block is taken by `records`, as long as the
-// records are whole and their lines find room, and what is left over is kept at the block's front. Reading and writing is the program's.
+// Blocks of input taken record by record (document 01, "The bench program"): what stands at a position of the block is taken by `records`, as long as
+// the records are whole and their lines find room, and what is left over is kept at the block's front. Reading and writing is the program's.
+use answer_lines::LINE_ROOM;
 use frames::Frame;
-use records::LINE_ROOM;
-use records::Phase;
 use table::WORDS;
+use turns::Phase;
 ghost use mathlib.Core.Path.{_≡_};
 ghost use mathlib.Core.Bool.{true, false};
 ghost use Prim.Native.Nat.{ℕ, _+_, _-_, _≤_, min};
@@ -14,7 +14,8 @@ ghost use Rattle.layout.specs.Table.{Table};
 ghost use Rattle.layout.specs.Words.{Valid};
 ghost use Rattle.frames.specs.Frames.{front};
 ghost use Rattle.lines.specs.Lines.{Put};
-ghost use Rattle.records.specs.Records.{isEnd, stateIn, first, endOf, runFrom, runOf};
+ghost use Rattle.turns.specs.Turns.{stateIn};
+ghost use Rattle.records.specs.Records.{isEnd, first, endOf, runFrom, runOf};
 ghost use Rattle.blocks.specs.Blocks.{isPart, Advanced, Ran, Stopped, kept, nextIn, BlockTaken};
 
 // The state in which a run starts: the phase, and the words of the table that the run is then lent.
@@ -85,10 +86,10 @@ pub fn finish(phase: Phase, rest: &[u8], out: &mut [u8]) -> usize
     if rest.len() == 0 {
         return 0;
     }
-    records::put_bad(out, 0)
+    answer_lines::put_bad(out, 0)
 }
 
-// One record at place `used` of the input, or none, where the octets from there on hold no whole record.
+// One record at position `used` of the input, or none, where the octets from there on hold no whole record.
 fn take_record(
     t: &mut [u32],
     phase: Phase,
@@ -106,7 +107,7 @@ fn take_record(
         Frame::Nothing => Progress { phase, used, wrote },
         Frame::Cut => Progress { phase, used, wrote },
         Frame::Bad => {
-            let end = records::put_bad(out, wrote);
+            let end = answer_lines::put_bad(out, wrote);
             Progress {
                 phase: Phase::Ended,
                 used: input.len(),
@@ -186,8 +187,8 @@ fn least(a: usize, b: usize) -> usize
     b
 }
 
-// Moves the octets of a block that were not used to its front: those from place `used` up to place `filled`, where a place past the end counts as
-// the end. The other places stay as they are. Answers how many octets were moved.
+// Moves the octets of a block that were not used to its front: those from position `used` up to position `filled`, where a position past the end counts
+// as the end. The other octets stay as they are. Answers how many octets were moved.
 fn keep(block: &mut [u8], used: usize, filled: usize) -> usize
     ensures count { λ r. ⌜ r ≡ length (kept (now (block .entry)) used filled) ⌝ }
     ensures moved { λ _. ⌜ now (block .exit) ≡ stored (now (block .entry)) 0 (kept (now (block .entry)) used filled) ⌝ }

@@ -8,7 +8,7 @@ ghost use Prim.Native.Nat.{_+_, _≤_, _%_};
 ghost use lib.ListN.{length, take, drop};
 ghost use lib.Dec.{eqb};
 ghost use Rattle.community.specs.Community.{electionUnder, readCommunity, readList, writeNumber, communityWritten};
-ghost use Rattle.community.specs.Search.{Found};
+ghost use Rattle.community.specs.Search.{FirstFrom};
 
 // What a route says of the election: document 01's entry without its address.
 pub struct Election {
@@ -25,7 +25,7 @@ pub struct ListRead {
 }
 
 // Where an election community starts in a list.
-pub enum Place {
+pub enum CommunityStart {
     At(usize),
     Nowhere,
 }
@@ -57,7 +57,7 @@ fn under(algorithm: u8, ac_df: bool, dp: bool, preference: u16) -> Election
     }
 }
 
-// What the community at place `at` of a list says.
+// What the community at position `at` of a list says.
 fn read_at(s: &[u8], at: usize) -> Election
     requires { ⌜ at + 8 ≤ length (now s) ⌝ }
     ensures { λ r. ⌜ r ≡ readCommunity (take 8 (drop at (now (s .entry)))) ⌝ }
@@ -70,21 +70,21 @@ fn read_at(s: &[u8], at: usize) -> Election
     under(algorithm, ac_df == 1, dp == 1, preference)
 }
 
-// Where the first election community at or after place `at` starts.
-fn find(s: &[u8], from: usize) -> Place
+// Where the first election community at or after position `from` starts.
+fn find(s: &[u8], from: usize) -> CommunityStart
     requires { ⌜ (length (now s) % 8 ≡ 0) × (from % 8 ≡ 0) × (from ≤ length (now s)) ⌝ }
-    ensures { λ r. ⌜ Found (now (s .entry)) from r ⌝ }
+    ensures { λ r. ⌜ FirstFrom (now (s .entry)) from r ⌝ }
 {
     let mut at = from;
     while at < s.len() {
         if s[at] == 6 {
             if s[at + 1] == 6 {
-                return Place::At(at);
+                return CommunityStart::At(at);
             }
         }
         at += 8;
     }
-    Place::Nowhere
+    CommunityStart::Nowhere
 }
 
 // Reads a list of communities: 7 for a length over 256 or not a multiple of 8. Communities that do not start 06 06 are skipped; several
@@ -105,7 +105,7 @@ pub fn read_list(s: &[u8]) -> ListRead
         };
     }
     let first = find(s, 0);
-    let Place::At(at) = first else {
+    let CommunityStart::At(at) = first else {
         return ListRead {
             number: 0,
             election: NO_ELECTION,
@@ -113,7 +113,7 @@ pub fn read_list(s: &[u8]) -> ListRead
     };
     let election = read_at(s, at);
     let second = find(s, at + 8);
-    let Place::At(_) = second else {
+    let CommunityStart::At(_) = second else {
         return ListRead {
             number: 0,
             election: election,

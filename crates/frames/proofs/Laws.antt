@@ -187,10 +187,10 @@ cut-length s o e =
     let b = cut-begun s e in
     omega (arith, b .short o, b .lacks, length-append s (b .missing), ap length (b .completes))
 
--- ---- what the answer for a place tells
+-- ---- what the answer for a position tells
 
--- a whole record: its payload starts four octets after the place, and all of it is there
-pub record Found (s : List ℕ) (at k start len : ℕ) : Type 0 where
+-- a whole record: its payload starts four octets after the position, and all of it is there
+pub record WholeAt (s : List ℕ) (at k start len : ℕ) : Type 0 where
   pub begins : start ≡ at + 4
   pub fits : start + len ≤ length s
   pub stands : front (drop at s) ≡ whole k (take len (drop start s)) (drop (start + len) s)
@@ -199,10 +199,10 @@ abbrev pub Told : List ℕ → ℕ → Frame → Type 0
 Told s at Nothing = drop at s ≡ []
 Told s at Bad = front (drop at s) ≡ bad
 Told s at Cut = front (drop at s) ≡ cut
-Told s at (Whole k start len) = Found s at k start len
+Told s at (Whole k start len) = WholeAt s at k start len
 
-found : (s : List ℕ) (at k : ℕ) (p r : List ℕ) → front (drop at s) ≡ whole k p r → Found s at k (at + 4) (length p)
-found s at k p r e =
+whole-at : (s : List ℕ) (at k : ℕ) (p r : List ℕ) → front (drop at s) ≡ whole k p r → WholeAt s at k (at + 4) (length p)
+whole-at s at k p r e =
     let w = whole-record (drop at s) e in
     let b : drop (at + 4) s ≡ p ++ r = sym (drop-drop 4 at s) ∙ ap (drop 4) w in
     let l = ap length w in
@@ -215,15 +215,15 @@ unfolding located
 told-located s at nothing e = nothing-empty (drop at s) e
 told-located s at bad e = e
 told-located s at cut e = e
-told-located s at (whole k p r) e = found s at k p r e
+told-located s at (whole k p r) e = whole-at s at k p r e
 
--- what an answer tells of the octets at its place
+-- what an answer tells of the octets at its position
 pub frame-told : (s : List ℕ) (at : ℕ) {r : Frame} → frameAt s at ≡ r → Told s at r
 unfolding frameAt
 frame-told s at e = subst (λ (r : Frame). Told s at r) e (told-located s at (front (drop at s)) refl)
 
--- the lengths at a place
-pub found-length : (s : List ℕ) {at k start len : ℕ} → getD s (at + 3) 0 < 256 → Found s at k start len → len < 256
-found-length s {at} {k} {start} {len} o f =
+-- the lengths at a position
+pub whole-at-length : (s : List ℕ) {at k start len : ℕ} → getD s (at + 3) 0 < 256 → WholeAt s at k start len → len < 256
+whole-at-length s {at} {k} {start} {len} o f =
     let l = whole-length (drop at s) (rw getD-drop o) (f .stands) in
     rw (length-take-le len (drop start s) (simp length-drop (omega (arith, f .fits)))) at l

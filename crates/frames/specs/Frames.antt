@@ -7,8 +7,8 @@
 --     whole k p r     ==   a whole record of kind k with the payload p, and the octets r after it
 --   must m a f        == f if the octet a is m, else bad
 --   front s           == what stands at the front of the octets s
---   located at f      == the answer for a front f that stands at place `at`: a payload starts four octets later
---   frameAt s at      == the answer for place `at` of the octets s
+--   located at f      == the answer for a front f that stands at position `at`: a payload starts four octets later
+--   frameAt s at      == the answer for position `at` of the octets s
 use Prim.Native.Nat.{ℕ, _+_}
 use mathlib.Core.Bool.{cond}
 use mathlib.Core.List.{List, [], _∷_}

@@ -12,7 +12,7 @@ const MARK_SECOND: u8 = 0x4F;
 // How many octets stand before the payload: the mark, the kind and the length.
 const HEAD_LENGTH: usize = 4;
 
-// What stands at a place of a run of octets.
+// What stands at a position of a run of octets.
 pub enum Frame {
     // No octet at all.
     Nothing,
@@ -20,7 +20,7 @@ pub enum Frame {
     Bad,
     // The octets end before the record does.
     Cut,
-    // A whole record: its kind, the place of its payload, and the payload's length. The next record stands at start + len.
+    // A whole record: its kind, the position of its payload, and the payload's length. The next record stands at start + len.
     Whole { kind: u8, start: usize, len: usize },
 }
 
@@ -31,7 +31,7 @@ fn length_in(octet: u8) -> usize
     octet as usize
 }
 
-// What stands at place `at` of s; a place past the end counts as the end. An octet of the mark that is there and wrong makes the record bad,
+// What stands at position `at` of s; a position past the end counts as the end. An octet of the mark that is there and wrong makes the record bad,
 // however few octets there are; a record whose mark is right as far as it goes, and which is not all there, is cut.
 pub fn frame_at(s: &[u8], at: usize) -> Frame
     ensures { λ r. ⌜ r ≡ frameAt (now (s .entry)) at ⌝ }

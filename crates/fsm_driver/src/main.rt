@@ -5,7 +5,7 @@
 use fsm::Answer;
 use fsm::Machine;
 ghost use mathlib.Core.Path.{_≡_};
-ghost use Rattle.fsm_driver.specs.Items.{afterItem, itemOctets};
+ghost use Rattle.fsm_driver.specs.Items.{itemAnswer, itemOctets};
 
 // The machine after an item, and whether another item may follow.
 struct Turn {
@@ -14,8 +14,8 @@ struct Turn {
 }
 
 // The answer to an item.
-fn after_item(m: Machine, kind: u8, event: u8, number: u32) -> Answer
-    ensures { λ r. ⌜ r ≡ afterItem m kind event number ⌝ }
+fn item_answer(m: Machine, kind: u8, event: u8, number: u32) -> Answer
+    ensures { λ r. ⌜ r ≡ itemAnswer m kind event number ⌝ }
 {
     if kind == 0 {
         return fsm::drive_number(m, event, number);
@@ -62,7 +62,7 @@ fn take_item(m: Machine) -> Turn {
         };
     }
     let number = octets::u32_of(item[2], item[3], item[4], item[5]);
-    let a = after_item(m, item[0], item[1], number);
+    let a = item_answer(m, item[0], item[1], number);
     let line = octets_of(a);
     let next = a.machine;
     Turn {

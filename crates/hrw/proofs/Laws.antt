@@ -1,4 +1,4 @@
--- Laws of `specs/Crc.antt` and `specs/Weight.antt`: the CRC an octet at a time and over pieces, bounds, and the low 31 bits that decide a weight.
+-- Laws of `specs/Crc.antt` and `specs/Weight.antt`: the CRC an octet at a time, the digest's image, and the low 31 bits that decide a weight.
 -- Assumes nothing.
 use Prim.Native.Nat.{ℕ, zero, suc, _+_, _*_, _/_, _%_, _^_, _≤_, _<_}
 use native.Mathlib.Nat.{mul-one, mul-add, mul-assoc, add-assoc, div-add-mod', mod-lt, mul-add-mod-self-right}
@@ -6,14 +6,15 @@ use native.Mathlib.Numerals.{add-one}
 use native.Mathlib.Omega.{arith}
 use mathlib.Core.Path.{_≡_, refl, ap, _∙_, sym}
 use mathlib.Core.Bool.{cond}
-use mathlib.Core.List.{List, [], _∷_, _++_}
-use lib.ListN.{length, getD, drop, drop-of-length-le}
+use mathlib.Core.List.{List, _++_}
+use lib.ListN.{length, length-append, getD, drop, drop-of-length-le}
 use lib.Seq.{drop-cons}
 use lib.Pow.{pow-pos, split}
 use lib.Dec.{eqb}
 use lib.Bits.{bitXor, differ, xor-shifted, xor-mod, shifted-half, shifted-even}
-use Rattle.octets.specs.Octets.{octetsOf}
-use Rattle.hrw.specs.Crc.{polynomial, allOnes, crcBit, crcBits, crcOctet, crcOver, crc32Of}
+use Rattle.octets.specs.Octets.{octetsOf, stored}
+use Rattle.octets.proofs.Laws.{length-octets, stored-stored, stored-all}
+use Rattle.hrw.specs.Crc.{polynomial, crcBit, crcBits, crcOctet, crcOver, crc32Of}
 use Rattle.hrw.specs.Weight.{digestOver, digestOf, weightOf}
 use Rattle.hrw.proofs.Xor.{bit, xor-half, xor-odd, xor-xor}
 
@@ -57,16 +58,7 @@ unfolding crcOctet
 crcOctet-parts c x =
     crcBits-parts 8 8 (bitXor c x) ∙ ap (λ (n : ℕ). bitXor n (crcBits 8 (bitXor c x % 256))) (crcBits-shift 8 (bitXor c x / 256))
 
-pub crcOctet-halves : (x : ℕ) → crcOctet 0 x ≡ bitXor (crcBits 8 (x / 16 * 16)) (crcBits 8 (x % 16))
-unfolding crcOctet
-crcOctet-halves x = crcBits-parts 8 4 x
-
--- ---- over pieces
-
-pub crcOver-append : (c : ℕ) (a b : List ℕ) → crcOver c (a ++ b) ≡ crcOver (crcOver c a) b
-unfolding crcOver
-crcOver-append c [] b = refl
-crcOver-append c (x ∷ a) b = crcOver-append (crcOctet c x) a b
+-- ---- octet after octet
 
 pub crcOver-next : (c : ℕ) (s : List ℕ) (i : ℕ) → i < length s → crcOver c (drop i s) ≡ crcOver (crcOctet c (getD s i 0)) (drop (i + 1) s)
 unfolding crcOver
@@ -76,14 +68,14 @@ pub crcOver-end : (c : ℕ) (s : List ℕ) (i : ℕ) → length s ≤ i → crcO
 unfolding crcOver
 crcOver-end c s i h = rw (drop-of-length-le s h)
 
--- a digest over two pieces goes on from the first to the second
-pub digestOver-append : (a b : List ℕ) → digestOver (a ++ b) ≡ bitXor (crcOver (crcOver allOnes a) b) allOnes % 2 ^ 31
-unfolding digestOver crc32Of
-digestOver-append a b = ap (λ (c : ℕ). bitXor c allOnes % 2 ^ 31) (crcOver-append allOnes a b)
-
-pub digestOf-pieces : (tag : ℕ) (esi : List ℕ) → digestOf tag esi ≡ bitXor (crcOver (crcOver allOnes (octetsOf 4 tag)) esi) allOnes % 2 ^ 31
-unfolding digestOf
-digestOf-pieces tag esi = digestOver-append (octetsOf 4 tag) esi
+-- the digest of an image that the tag's octets and the identifier fill
+pub digest-image : (d : List ℕ) (tag : ℕ) (esi : List ℕ) → length d ≡ 14 → length esi ≡ 10 → crc32Of (stored (stored d 0 (octetsOf 4 tag)) 4 esi) % 2 ^ 31 ≡ digestOf tag esi
+unfolding digestOf digestOver
+digest-image d tag esi hd he =
+    let four = length-octets 4 tag in
+    let all = length-append (octetsOf 4 tag) esi in
+    ap (λ (s : List ℕ). crc32Of s % 2 ^ 31)
+    (stored-stored d 0 (octetsOf 4 tag) esi 4 (omega (arith, four)) (omega arith) ∙ stored-all d (octetsOf 4 tag ++ esi) (omega (arith, four, all)))
 
 -- ---- the low 31 bits decide a weight
 

@@ -1,4 +1,4 @@
 -- Laws on the CRC, the digest and the weight for the crates above, and what they rest on.
 mod Xor
-mod Entries
+mod Arms
 pub mod Laws

@@ -1,6 +1,6 @@
 // Highest random weight (HRW): CRC-32, the digest of an Ethernet Tag on a segment, and the weight of an address.
 ghost use mathlib.Core.Path.{_≡_};
-ghost use Rattle.hrw.specs.Crc.{crcOctet, crcOver, crc32Of};
+ghost use Rattle.hrw.specs.Crc.{crcOctet, crc32Of};
 ghost use Rattle.hrw.specs.Weight.{digestOf, weightOf};
 
 mod table;
@@ -18,39 +18,25 @@ const INCREMENT: u64 = 12345;
 
 const MODULUS: u64 = 2147483648;
 
-// The CRC register after the octet x, from the register 0: the entries of its halves.
-fn after_octet(x: u8) -> u32
-    ensures { λ r. ⌜ r ≡ crcOctet 0 x ⌝ }
-{
-    table::of_high_half(x / 16) ^ table::of_low_half(x % 16)
-}
-
 // The CRC register after one octet more.
 fn crc_octet(state: u32, x: u8) -> u32
     ensures { λ r. ⌜ r ≡ crcOctet state x ⌝ }
 {
     let mixed = state ^ (x as u32);
-    (mixed / 256) ^ after_octet((mixed % 256) as u8)
-}
-
-// The CRC register after the octets of s, from the register handed in: a CRC of several pieces goes on from one to the next.
-pub fn crc_over(state: u32, s: &[u8]) -> u32
-    ensures { λ r. ⌜ r ≡ crcOver state (now (s .entry)) ⌝ }
-{
-    let mut r = state;
-    let mut i = 0;
-    while i < s.len() {
-        r = crc_octet(r, s[i]);
-        i += 1;
-    }
-    r
+    (mixed / 256) ^ table::after_octet((mixed % 256) as u8)
 }
 
 // The CRC-32 of the octets of s.
 pub fn crc32(s: &[u8]) -> u32
     ensures { λ r. ⌜ r ≡ crc32Of (now (s .entry)) ⌝ }
 {
-    crc_over(ALL_ONES, s) ^ ALL_ONES
+    let mut r = ALL_ONES;
+    let mut i = 0;
+    while i < s.len() {
+        r = crc_octet(r, s[i]);
+        i += 1;
+    }
+    r ^ ALL_ONES
 }
 
 // The digest D of an Ethernet Tag on a segment: the CRC-32 of the tag's four octets, high first, then the identifier's ten, with the top bit dropped.
@@ -58,8 +44,10 @@ pub fn digest(tag: u32, esi: [u8; 10]) -> u32
     ensures { λ r. ⌜ r ≡ digestOf tag esi ⌝ }
 {
     let head = octets::of_u32(tag);
-    let state = crc_over(ALL_ONES, &head);
-    (crc_over(state, &esi) ^ ALL_ONES) % TOP_BIT
+    let mut s = [0; 14];
+    octets::store(&mut s, 0, &head);
+    octets::store(&mut s, 4, &esi);
+    crc32(&s) % TOP_BIT
 }
 
 // The weight of an address under any digest. Only the low 31 bits of what is multiplied second decide the result: with these the product fits.

@@ -10,7 +10,7 @@ use lib.Dec.{eqb}
 use Rattle.lists.specs.Lists.{bit}
 use Rattle.lists.proofs.Bools.{bit-eqb}
 use Rattle.lists.proofs.Lists.{set-append-add, map-set}
-use Rattle.keyed.specs.Keyed.{spliced, cut}
+use Rattle.keyed.specs.Keyed.{spliced, dropAt}
 use Rattle.keyed.proofs.Keyed as keyed
 use Rattle.rows.specs.Rows.{column, inserted, removed}
 use Rattle.rows.proofs.Columns.{Wide, length-column, column-inserted, column-removed, column-set}
@@ -134,20 +134,20 @@ module _ (b i : List ℕ) (es : List Entry) (short : length es ≤ 64) (wide : W
   -- ONE ENTRY LESS
   module _ (at : ℕ) (l : at < length es) where
     abbrev less : List Entry
-    less = cut es at
+    less = dropAt es at
 
     length-less : length less ≡ length es - 1
-    length-less = omega (arith, keyed.length-cut es at l)
+    length-less = omega (arith, keyed.length-dropAt es at l)
 
     wide-less : Wide 5 (addressColumn less)
-    wide-less = rw (keyed.map-cut rowOf es at) (keyed.every-cut _ (addressColumn es) at wide)
+    wide-less = rw (keyed.map-dropAt rowOf es at) (keyed.every-dropAt _ (addressColumn es) at wide)
 
     first-shrunk : (g : List ℕ) → g ≡ removed 5 (length es) at b → Parts g less es (length es)
     first-shrunk g q =
         let n = length-map es rowOf in
         q ∙ rw (parts, ← n)
         (column-removed 5 64 (addressColumn es) _ wide at (omega (arith, n)) (omega (arith, n, short))
-        ∙ ap (λ (c : List (List ℕ)). column 5 64 c ++ (column 1 64 (attributeColumn es) ++ tail (length (addressColumn es)))) (sym (keyed.map-cut rowOf es at)))
+        ∙ ap (λ (c : List (List ℕ)). column 5 64 c ++ (column 1 64 (attributeColumn es) ++ tail (length (addressColumn es)))) (sym (keyed.map-dropAt rowOf es at)))
 
     second-shrunk : (g d : List ℕ) → Parts g less es (length es) → d ≡ removed 1 (length es) at (drop 320 g)
         → set (take 320 g ++ d) 384 (length es - 1) ≡ wordsOf (tableOf i less)
@@ -158,7 +158,7 @@ module _ (b i : List ℕ) (es : List Entry) (short : length es ≤ 64) (wide : W
         let v : d ≡ column 1 64 (attributeColumn less) ++ tail (length es) =
         q ∙ rw (behind g less es (length es) wide-less m p, ← n)
         (column-removed 1 64 (attributeColumn es) (tail (length (attributeColumn es))) (wide-attributes es) at (omega (arith, n)) (omega (arith, n, short))
-        ∙ ap (λ (c : List (List ℕ)). column 1 64 c ++ tail (length (attributeColumn es))) (sym (keyed.map-cut wordOf es at))) in
+        ∙ ap (λ (c : List (List ℕ)). column 1 64 c ++ tail (length (attributeColumn es))) (sym (keyed.map-dropAt wordOf es at))) in
         rw (before g less es (length es) wide-less m p, v, counted less less (length es) (length es - 1) wide-less m m, length-less)
 
     pub shrunk-words : (n : ℕ) (g d : List ℕ) → n ≡ length es → g ≡ removed 5 n at b → d ≡ removed 1 n at (take (length g - 320) (drop 320 g))

@@ -10,7 +10,7 @@ ghost use mathlib.Core.List.{[], _∷_, _++_, map};
 ghost use Prim.Native.Nat.{_%_, _^_, _≤_, _<_};
 ghost use lib.ListN.{length, getD, set, take};
 ghost use Rattle.octets.specs.Octets.{sameNumbers};
-ghost use Rattle.keyed.specs.Keyed.{spliced, cut};
+ghost use Rattle.keyed.specs.Keyed.{spliced, dropAt};
 ghost use Rattle.rows.specs.Rows.{foundIn, looksFor};
 ghost use Rattle.address.specs.Address.{addressRow, familyOf, octetsOfAddress, addressKey, addressNumber};
 ghost use Rattle.layout.specs.Table.{entryKey, noEntry, tableOf};
@@ -202,7 +202,7 @@ pub fn grow(t: &mut [u32], at: usize, address: Address, word: u32)
 // One entry less: the one at a place goes.
 pub fn shrink(t: &mut [u32], at: usize)
     requires { ⌜ Valid (now t) × (at < length (tableIn (now t) .entries)) ⌝ }
-    ensures { λ _. ⌜ now (t .exit) ≡ wordsOf (tableOf (tableIn (now (t .entry)) .esi) (cut (tableIn (now (t .entry)) .entries) at)) ⌝ }
+    ensures { λ _. ⌜ now (t .exit) ≡ wordsOf (tableOf (tableIn (now (t .entry)) .esi) (dropAt (tableIn (now (t .entry)) .entries) at)) ⌝ }
 {
     let n = count(t);
     rows::remove(t, n, address::WIDTH, at);

@@ -11,7 +11,7 @@ use lib.Dec.{leb, ltb}
 use borrow.Author.Tests.{lt-ltb, le-ltb, le-leb, lt-leb, leb-true, ltb-true, ltb-false}
 use Rattle.octets.specs.Octets.{stored, octetsOf}
 use Rattle.octets.proofs.Laws.{Octets, stored-not, length-stored, stored-stored, take-stored, length-octets, octets-octets}
-use Rattle.lines.specs.Lines.{digit, digits, decimal, joined, dotted, placeAfter, Put}
+use Rattle.lines.specs.Lines.{digit, digits, decimal, joined, dotted, positionAfter, Put}
 
 -- ---- decimal digits
 
@@ -86,27 +86,27 @@ length-dotted a = omega (arith, length-joined (octetsOf 4 a) (octets-octets 4 a)
 
 -- a piece that has room, and one that has none
 pub put-made : {d : List ℕ} {at : ℕ} {s : List ℕ} {r : ℕ} {e : List ℕ} → at + length s ≤ length d → r ≡ at + length s → e ≡ stored d at s → Put d at s r e
-unfolding placeAfter
-put-made {d} {at} {s} h p b = record { place = p ∙ rw (le-leb (at + length s) (length d) h); buffer = b }
+unfolding positionAfter
+put-made {d} {at} {s} h p b = record { position = p ∙ rw (le-leb (at + length s) (length d) h); buffer = b }
 
 pub put-refused : (d : List ℕ) (at : ℕ) (s : List ℕ) → length d < at + length s → Put d at s at d
-unfolding placeAfter
-put-refused d at s h = record { place = rw (lt-leb (at + length s) (length d) h); buffer = sym (stored-not d at s h) }
+unfolding positionAfter
+put-refused d at s h = record { position = rw (lt-leb (at + length s) (length d) h); buffer = sym (stored-not d at s h) }
 
 module _ {d : List ℕ} {at : ℕ} {s : List ℕ} {r : ℕ} {e : List ℕ} (p : Put d at s r e) where
   -- the same piece, said in another way
   pub put-as : {t : List ℕ} → s ≡ t → Put d at t r e
   put-as q = subst (λ (l : List ℕ). Put d at l r e) q p
 
-  -- with room, the answer is the place after the piece, and `.buffer` says what is stored; without, nothing changes
-  pub put-place : at + length s ≤ length d → r ≡ at + length s
-  unfolding placeAfter
-  put-place h = p .place ∙ rw (le-leb (at + length s) (length d) h)
+  -- with room, the answer is the position after the piece, and `.buffer` says what is stored; without, nothing changes
+  pub put-position : at + length s ≤ length d → r ≡ at + length s
+  unfolding positionAfter
+  put-position h = p .position ∙ rw (le-leb (at + length s) (length d) h)
 
-  -- the place after a piece is inside the buffer or at its end
+  -- the position after a piece is inside the buffer or at its end
   pub put-within : at ≤ length d → r ≤ length d
-  unfolding placeAfter
-  put-within h = rw (p .place) (by-test (leb (at + length s) (length d)) (leb-true (at + length s) (length d)))
+  unfolding positionAfter
+  put-within h = rw (p .position) (by-test (leb (at + length s) (length d)) (leb-true (at + length s) (length d)))
     where
       by-test : (t : Bool) → (t ≡ true → at + length s ≤ length d) → cond t (at + length s) at ≤ length d
       by-test true k = k refl
@@ -121,10 +121,10 @@ pub put-next : {d : List ℕ} {at : ℕ} {p : List ℕ} {m : ℕ} {e s : List �
 put-next {d} {at} {p} {m} {e} {s} {r} {f} a b h =
     let l = length-append p s in
     let k = put-length a in
-    let o : m ≡ at + length p = put-place a (omega arith) in
+    let o : m ≡ at + length p = put-position a (omega arith) in
     let room : m + length s ≤ length e = omega arith in
     let q = b room in
-    put-made h (put-place q room ∙ omega arith) (q .buffer ∙ ap (λ (x : List ℕ). stored x m s) (a .buffer) ∙ stored-stored d at p s m (sym o) (omega arith))
+    put-made h (put-position q room ∙ omega arith) (q .buffer ∙ ap (λ (x : List ℕ). stored x m s) (a .buffer) ∙ stored-stored d at p s m (sym o) (omega arith))
 
 -- pieces put one after the other that together are t: with room for t, t is put
 pub put-all : {d : List ℕ} {at : ℕ} {s : List ℕ} {r : ℕ} {e t : List ℕ} → (at + length s ≤ length d → Put d at s r e) → s ≡ t → at + length t ≤ length d → Put d at t r e
@@ -133,5 +133,5 @@ put-all p q h = put-as (p (rw q h)) q
 -- a piece at the front of a buffer can be read back
 pub put-front : {d s : List ℕ} {r : ℕ} {e : List ℕ} → Put d 0 s r e → length s ≤ length d → (r ≡ length s) × (take r e ≡ s)
 put-front {d} {s} {r} {e} p h =
-    let q : r ≡ length s = put-place p (omega arith) ∙ omega arith in
+    let q : r ≡ length s = put-position p (omega arith) ∙ omega arith in
     (q, rw (q, p .buffer) (take-stored d s h))

@@ -1,12 +1,12 @@
 -- The pieces of an answer line (document 01, "The bench program"), as octets: plain decimals and dotted addresses; and the one rule by which
 -- a piece is put into a buffer. The dot is the octet 46.
---   digit d           == the octet of the digit d
---   digits k n        == the decimal digits of n, highest first and without leading zeros, if there are at most k
---   decimal n         == the decimal digits of n; 0 is one digit
---   joined s          == the decimal digits of each of the numbers s, with a dot between one and the next
---   dotted a          == the dotted form of a 32-bit address: its four octets, high octet first, in decimal, with dots between
---   placeAfter d at s == the place after s in the buffer d, if s fits from place `at` on; else `at`
---   Put d at s r e    == putting s at place `at` of a buffer that held d answers the place r, and leaves e in the buffer
+--   digit d              == the octet of the digit d
+--   digits k n           == the decimal digits of n, highest first and without leading zeros, if there are at most k
+--   decimal n            == the decimal digits of n; 0 is one digit
+--   joined s             == the decimal digits of each of the numbers s, with a dot between one and the next
+--   dotted a             == the dotted form of a 32-bit address: its four octets, high octet first, in decimal, with dots between
+--   positionAfter d at s == the position after s in the buffer d, if s fits from position `at` on; else `at`
+--   Put d at s r e       == putting s at position `at` of a buffer that held d answers the position r, and leaves e in the buffer
 use Prim.Native.Nat.{ℕ, zero, suc, _+_, _/_, _%_}
 use mathlib.Core.Path.{_≡_}
 use mathlib.Core.Bool.{cond}
@@ -35,9 +35,9 @@ joined (x ∷ y ∷ s) = decimal x ++ 46 ∷ joined (y ∷ s)
 unfoldable pub dotted : ℕ → List ℕ
 dotted a = joined (octetsOf 4 a)
 
-unfoldable pub placeAfter : List ℕ → ℕ → List ℕ → ℕ
-placeAfter d at s = cond (leb (at + length s) (length d)) (at + length s) at
+unfoldable pub positionAfter : List ℕ → ℕ → List ℕ → ℕ
+positionAfter d at s = cond (leb (at + length s) (length d)) (at + length s) at
 
 pub record Put (d : List ℕ) (at : ℕ) (s : List ℕ) (r : ℕ) (e : List ℕ) : Type 0 where
-  pub place : r ≡ placeAfter d at s
+  pub position : r ≡ positionAfter d at s
   pub buffer : e ≡ stored d at s

@@ -1,6 +1,6 @@
 // The pieces of an answer line (document 01, "The bench program"), put into a lent buffer one after the other: an octet, a run of octets,
-// a number in decimal, an address in dotted form. One rule for all: a piece that fits from the place on is stored there, and the answer is
-// the place after it; of a piece that does not fit nothing is stored, and the answer is the place itself.
+// a number in decimal, an address in dotted form. One rule for all: a piece that fits from the position on is stored there, and the answer is
+// the position after it; of a piece that does not fit nothing is stored, and the answer is the position itself.
 ghost use mathlib.Core.Path.{_≡_};
 ghost use mathlib.Core.List.{[], _∷_};
 ghost use Prim.Native.Nat.{_≤_};
@@ -19,7 +19,7 @@ const LONGEST_DECIMAL: usize = 20;
 // and how many octets a dotted address has at most.
 const LONGEST_DOTTED: usize = 15;
 
-// Puts one octet at place `at` and answers at + 1; where the buffer has no such place, it stays as it is and the answer is `at`.
+// Puts one octet at position `at` and answers at + 1; where the buffer has no such position, it stays as it is and the answer is `at`.
 pub fn put_octet(buf: &mut [u8], at: usize, x: u8) -> usize
     ensures { λ r. ⌜ Put (now (buf .entry)) at (x ∷ []) r (now (buf .exit)) ⌝ }
 {
@@ -30,7 +30,7 @@ pub fn put_octet(buf: &mut [u8], at: usize, x: u8) -> usize
     at + 1
 }
 
-// Puts a run of octets from place `at` on and answers the place after it; where it does not fit, the buffer stays as it is and the answer
+// Puts a run of octets from position `at` on and answers the position after it; where it does not fit, the buffer stays as it is and the answer
 // is `at`.
 pub fn put_run(buf: &mut [u8], at: usize, s: &[u8]) -> usize
     ensures { λ r. ⌜ Put (now (buf .entry)) at (now (s .entry)) r (now (buf .exit)) ⌝ }
@@ -45,7 +45,7 @@ pub fn put_run(buf: &mut [u8], at: usize, s: &[u8]) -> usize
     at + s.len()
 }
 
-// Spells the digits of a number at the end of a text of 20 octets, and answers the place of the first.
+// Spells the digits of a number at the end of a text of 20 octets, and answers the position of the first.
 fn spell(text: &mut [u8], n: u64) -> usize
     requires { ⌜ length (now text) ≡ 20 ⌝ }
     ensures { λ r. ⌜ (r ≤ 20) × (drop r (now (text .exit)) ≡ decimal n) ⌝ }
@@ -80,7 +80,7 @@ fn put_small(buf: &mut [u8], at: usize, x: u8) -> usize
     put_run(buf, at, &triple)
 }
 
-// Puts the decimal digits of a number, highest first and without leading zeros, from place `at` on and answers the place after them; where
+// Puts the decimal digits of a number, highest first and without leading zeros, from position `at` on and answers the position after them; where
 // they do not fit, the buffer stays as it is and the answer is `at`.
 pub fn put_decimal(buf: &mut [u8], at: usize, n: u64) -> usize
     ensures { λ r. ⌜ Put (now (buf .entry)) at (decimal n) r (now (buf .exit)) ⌝ }
@@ -108,8 +108,8 @@ fn spell_dotted(text: &mut [u8], a: u32) -> usize
     put_small(text, end, parts[3])
 }
 
-// Puts the dotted form of an address, its four octets in decimal, high octet first, with dots between, from place `at` on and answers the
-// place after it; where it does not fit, the buffer stays as it is and the answer is `at`.
+// Puts the dotted form of an address, its four octets in decimal, high octet first, with dots between, from position `at` on and answers the
+// position after it; where it does not fit, the buffer stays as it is and the answer is `at`.
 pub fn put_dotted(buf: &mut [u8], at: usize, a: u32) -> usize
     ensures { λ r. ⌜ Put (now (buf .entry)) at (dotted a) r (now (buf .exit)) ⌝ }
 {

@@ -1,108 +1,12 @@
--- Laws of a record's lines and of what is written: how long lines are, which line is printed, and octets written into a buffer.
--- Assumes nothing.
-use Prim.Native.Nat.{ℕ, _+_, _^_, _≤_, _<_}
-use native.Mathlib.Nat.{add-zero}
-use native.Mathlib.Omega.{arith}
-use mathlib.Core.Path.{_≡_, refl, ap, _∙_, sym, subst}
+-- Laws of whether a record is taken. Assumes nothing.
+use Prim.Native.Nat.{ℕ, _+_, _≤_, _<_}
+use mathlib.Core.Path.{_≡_, refl}
 use mathlib.Core.Bool.{Bool, true, false, _&&_}
-use mathlib.Core.List.{List, [], _∷_, _++_, append-nil}
-use lib.ListN.{length, take, drop, length-append, take-append-drop, drop-of-length-le}
+use mathlib.Core.List.{List}
+use lib.ListN.{length}
 use lib.Dec.{leb}
-use borrow.Author.Tests.{eq-eqb, ne-eqb, le-leb, lt-leb}
-use Rattle.election.specs.declared.Answer.{Answer}
-use Rattle.octets.proofs.Laws.{stored-fits, front-all}
-use Rattle.lines.specs.Lines.{decimal, dotted, Put}
-use Rattle.lines.proofs.Laws.{put-place, put-all, length-decimal, length-decimal-octet, length-dotted}
-use Rattle.records.specs.Steps.{Written, takes}
-use Rattle.records.specs.Records.{line, offsetLine, hasOffset, readLine, electedLine, queryLine}
-
--- ---- lines
-
-pub length-line : (c n : ℕ) → n < 256 → length (line c n) ≤ 40
-unfolding line
-length-line c n h = omega (arith, length-append (decimal n) (10 ∷ []), length-decimal-octet n h)
-
-pub length-offset : (c n p : ℕ) → n < 256 → p < 2 ^ 64 → length (offsetLine c n p) ≤ 40
-unfolding offsetLine
-length-offset c n p h l =
-    omega (
-      arith,
-      length-append (decimal n) (32 ∷ decimal p ++ (10 ∷ [])),
-      length-append (decimal p) (10 ∷ []),
-      length-decimal-octet n h,
-      length-decimal 19 p (omega arith),
-    )
-
--- after which numbers an offset is printed
-module _ (n : ℕ) where
-  pub offset-first : 1 ≤ n → n ≤ 4 → hasOffset n ≡ true
-  unfolding hasOffset
-  offset-first h l = rw (le-leb 1 n h, le-leb n 4 l)
-
-  pub offset-6 : n ≡ 6 → hasOffset n ≡ true
-  unfolding hasOffset
-  offset-6 e = rw e
-
-  pub offset-13 : n ≡ 13 → hasOffset n ≡ true
-  unfolding hasOffset
-  offset-13 e = rw e
-
-  pub no-offset-0 : n < 1 → hasOffset n ≡ false
-  unfolding hasOffset
-  no-offset-0 h = rw (lt-leb 1 n h, ne-eqb n 6 (λ z. omega arith), ne-eqb n 13 (λ z. omega arith))
-
-  pub no-offset : 4 < n → (n ≡ 6 → ⊥) → (n ≡ 13 → ⊥) → hasOffset n ≡ false
-  unfolding hasOffset
-  no-offset h a b = rw (le-leb 1 n (omega arith), lt-leb n 4 h, ne-eqb n 6 a, ne-eqb n 13 b)
-
--- which line is that of what was read
-pub read-offset : (c n p : ℕ) → hasOffset n ≡ true → offsetLine c n p ≡ readLine c n p
-unfolding readLine
-read-offset c n p h = rw h
-
-pub read-none : (c n p : ℕ) → hasOffset n ≡ false → line c n ≡ readLine c n p
-unfolding readLine
-read-none c n p h = rw h
-
-pub length-elected : (a n : ℕ) → n < 2 ^ 32 → length (electedLine a n) ≤ 40
-unfolding electedLine
-length-elected a n h =
-    omega (arith, length-append (dotted a) (32 ∷ decimal n ++ (10 ∷ [])), length-append (decimal n) (10 ∷ []), length-dotted a, length-decimal 9 n (omega arith))
-
-pub query-refused : (r : Answer) → (r .number ≡ 0 → ⊥) → line 113 (r .number) ≡ queryLine r
-unfolding queryLine
-query-refused r h = rw (ne-eqb (r .number) 0 h)
-
-pub query-accepted : (r : Answer) → r .number ≡ 0 → electedLine (r .address) (r .n) ≡ queryLine r
-unfolding queryLine
-query-accepted r h = rw (eq-eqb (r .number) 0 h)
-
--- ---- octets written into a buffer
-
--- what is put where there is room is written
-pub written : {d : List ℕ} {at : ℕ} {s : List ℕ} {r : ℕ} {e : List ℕ} → Put d at s r e → at + length s ≤ length d → Written d at s r e
-written p h = record { fits = h; place = put-place p h; buffer = p .buffer }
-
--- pieces that are put one after another are written as a whole
-pub written-all : {d : List ℕ} {at : ℕ} {s : List ℕ} {r : ℕ} {e t : List ℕ}
-    → (at + length s ≤ length d → Put d at s r e) → s ≡ t → at + length t ≤ length d → Written d at t r e
-written-all p q h = written (put-all p q h) h
-
--- the same octets, said otherwise
-pub written-as : {d : List ℕ} {at : ℕ} {s t : List ℕ} {r : ℕ} {e : List ℕ} → Written d at s r e → s ≡ t → Written d at t r e
-written-as {d} {at} {s} {t} {r} {e} w q = subst (λ (l : List ℕ). Written d at l r e) q w
-
--- no octets written into a buffer
-pub written-none : (d : List ℕ) (at : ℕ) → at ≤ length d → Written d at [] at d
-written-none d at h =
-    record { fits = omega arith; place = omega arith; buffer = sym (stored-fits d at [] (omega arith) ∙ rw (add-zero, append-nil) (take-append-drop at d)) }
-
--- ---- words copied
-
-pub copied : (d s : List ℕ) (n : ℕ) → length s ≡ n → length d ≡ n → take n s ++ drop n d ≡ s
-copied d s n e l = front-all d s n e ∙ ap (s ++_) (drop-of-length-le d {i = n} (omega arith)) ∙ append-nil s
-
--- ---- whether a record is taken
+use borrow.Author.Tests.{le-leb, lt-leb}
+use Rattle.records.specs.Records.{takes}
 
 and-false : (t : Bool) → (t && false) ≡ false
 and-false true = refl

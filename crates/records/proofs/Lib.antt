@@ -1,4 +1,3 @@
--- Laws of a record's lines and of its turn.
+-- Laws of which turn a record's is, and of whether it is taken.
 pub mod Laws
 mod Turns
-mod Words

@@ -1,23 +1,4 @@
--- The bench program's run (document 01, "The bench program"): octets in, octets out.
--- Letters and signs are octets: `a` 97, `p` 112, `q` 113, `w` 119, `x` 120, space 32, newline 10.
---   Bench              == the state of a run: its phase and its table
---   Turn               == what one record does: the line that is printed, and the state after it
---   line c n           == the line of the letter c and the number n
---   offsetLine c n p    == the line of the letter c, the number n and the offset p
---   hasOffset n         == whether an offset is printed after the number n: after 1 to 4, 6 and 13 (document 02, M-103)
---   readLine c n p     == the line of the letter c for what was read: the number n, and the offset p where one is printed
---   badLine            == the line `x 16`
---   electedLine a n    == the line of an accepted query
---   queryLine r        == the line of the election's answer r
---   stateIn h w        == the state of the phase h with the table that lies in the words w
---   running t          == the state in which records are carried out upon the table t
---   ended t            == the state in which nothing more is looked at
---   badTurn t          == a bad record's turn
---   textTurn t p      == the turn of the first record, the text p (a plate in document 01)
---   announceTurn t p   == the turn of an announcement: 25 route octets, then communities
---   withdrawTurn t p   == the turn of a withdrawal
---   wordsIn s          == the numbers that the octets s make, four octets each
---   queryTurn t p      == the turn of a query: the tag, then the ready addresses
+-- The bench program's run (document 01, "The bench program"): octets in, octets out. The turns of records by kind are those of `turns`.
 --   laterTurn t k p    == the turn of a record of kind k after the first
 --   turnIn h t k p     == the turn of a record of kind k with the payload p in the phase h, upon the table t
 --   turn b k p         == the turn of a record of kind k with the payload p in the state b
@@ -29,100 +10,22 @@
 --   first              == the state at the start
 --   runOf s            == the whole output for the input s
 --   endOf h s          == what is printed in the phase h where the input ends with the octets s, which are no whole record
-use Prim.Native.Nat.{ℕ, zero, suc, _%_}
-use mathlib.Core.Bool.{Bool, true, false, cond, _&&_, _||_}
-use mathlib.Core.List.{List, [], _∷_, _++_}
-use lib.ListN.{length, take, drop, replicate}
+--   takes d at p       == whether a record with the payload p is taken with its line at position `at` of a buffer that holds d: there is room for any
+--                         line, and the payload has at most 255 octets
+use Prim.Native.Nat.{ℕ, zero, suc, _+_, _%_}
+use mathlib.Core.Bool.{Bool, true, false, cond, _&&_}
+use mathlib.Core.List.{List, [], _++_}
+use lib.ListN.{length, replicate}
 use lib.Dec.{leb, eqb}
-use Rattle.octets.specs.Octets.{numberOf}
-use Rattle.esi.specs.Text.{readText}
 use Rattle.layout.specs.Table.{Table}
-use Rattle.table.specs.Table.{freshTable, announced, withdrawn}
-use Rattle.layout.specs.Words.{tableIn}
-use Rattle.election.specs.declared.Answer.{Answer}
-use Rattle.election.specs.Election.{electOf}
+use Rattle.table.specs.Table.{freshTable}
 use Rattle.frames.specs.Frames.{Front, nothing, bad, cut, whole, front}
-use Rattle.lines.specs.Lines.{decimal, dotted}
-use Rattle.records.specs.declared.Phase.{Phase}
-use Rattle.records.specs.declared.Phase.the-variants.{Start, Running, Ended}
+use Rattle.answer_lines.specs.AnswerLines.{badLine}
+use Rattle.turns.specs.declared.Phase.{Phase}
+use Rattle.turns.specs.declared.Phase.the-variants.{Start, Running, Ended}
+use Rattle.turns.specs.Turns.{Bench, Turn, atEnd, badTurn, textTurn, announceTurn, withdrawTurn, queryTurn}
 
-pub record Bench : Type 0 where
-  pub phase : Phase
-  pub table : Table
-
-pub record Turn : Type 0 where
-  pub line : List ℕ
-  pub next : Bench
-
--- LINES
-unfoldable pub line : ℕ → ℕ → List ℕ
-line c n = (c ∷ []) ++ ((32 ∷ []) ++ (decimal n ++ (10 ∷ [])))
-
-unfoldable pub offsetLine : ℕ → ℕ → ℕ → List ℕ
-offsetLine c n p = (c ∷ []) ++ ((32 ∷ []) ++ (decimal n ++ ((32 ∷ []) ++ (decimal p ++ (10 ∷ [])))))
-
-unfoldable pub hasOffset : ℕ → Bool
-hasOffset n = (leb 1 n && leb n 4) || (eqb n 6 || eqb n 13)
-
-unfoldable pub readLine : ℕ → ℕ → ℕ → List ℕ
-readLine c n p = cond (hasOffset n) (offsetLine c n p) (line c n)
-
-abbrev pub badLine : List ℕ
-badLine = 120 ∷ 32 ∷ 49 ∷ 54 ∷ 10 ∷ []
-
--- an accepted query adds the address and N
-unfoldable pub electedLine : ℕ → ℕ → List ℕ
-electedLine a n = (113 ∷ 32 ∷ 48 ∷ 32 ∷ []) ++ (dotted a ++ ((32 ∷ []) ++ (decimal n ++ (10 ∷ []))))
-
-unfoldable pub queryLine : Answer → List ℕ
-queryLine r = cond (eqb (r .number) 0) (electedLine (r .address) (r .n)) (line 113 (r .number))
-
--- STATES
-abbrev pub stateIn : Phase → List ℕ → Bench
-stateIn h w = record { phase = h; table = tableIn w }
-
-abbrev pub running : Table → Bench
-running t = record { phase = Running; table = t }
-
-abbrev pub ended : Table → Bench
-ended t = record { phase = Ended; table = t }
-
--- TURNS
-abbrev pub badTurn : Table → Turn
-badTurn t = record { line = badLine; next = ended t }
-
--- a refused plate prints its line and ends
-unfoldable pub textTurn : Table → List ℕ → Turn
-textTurn t p = record {
-  line = readLine 112 (readText p .number) (readText p .offset);
-  next = cond (eqb (readText p .number) 0) (running (freshTable (readText p .esi) .table)) (ended t);
-}
-
-unfoldable pub announceTurn : Table → List ℕ → Turn
-announceTurn t p = record {
-  line = readLine 97 (announced t (take 25 p) (drop 25 p) .number) (announced t (take 25 p) (drop 25 p) .offset);
-  next = running (announced t (take 25 p) (drop 25 p) .table);
-}
-
-unfoldable pub withdrawTurn : Table → List ℕ → Turn
-withdrawTurn t p = record {
-  line = line 119 (withdrawn t (numberOf p) .number);
-  next = running (withdrawn t (numberOf p) .table);
-}
-
-unfoldable pub wordsIn : List ℕ → List ℕ
-wordsIn [] = []
-wordsIn (a ∷ []) = []
-wordsIn (a ∷ b ∷ []) = []
-wordsIn (a ∷ b ∷ c ∷ []) = []
-wordsIn (a ∷ b ∷ c ∷ d ∷ s) = numberOf (a ∷ b ∷ c ∷ d ∷ []) ∷ wordsIn s
-
-unfoldable pub queryTurn : Table → List ℕ → Turn
-queryTurn t p = record {
-  line = queryLine (electOf (t .esi) (t .entries) (numberOf (take 4 p)) (wordsIn (drop 4 p)));
-  next = running t;
-}
-
+-- WHICH TURN A RECORD'S IS
 -- kinds 1 to 3: an announcement of at least 25 octets, a withdrawal of 4, a query of a multiple of 4 and at least 4
 unfoldable pub laterTurn : Table → ℕ → List ℕ → Turn
 laterTurn t k p =
@@ -135,7 +38,7 @@ laterTurn t k p =
 unfoldable pub turnIn : Phase → Table → ℕ → List ℕ → Turn
 turnIn Start t k p = cond (eqb k 0) (textTurn t p) (badTurn t)
 turnIn Running t k p = laterTurn t k p
-turnIn Ended t k p = record { line = []; next = ended t }
+turnIn Ended t k p = record { line = []; next = atEnd t }
 
 abbrev pub turn : Bench → ℕ → List ℕ → Turn
 turn b k p = turnIn (b .phase) (b .table) k p
@@ -171,3 +74,7 @@ runOf s = runFrom first s
 
 unfoldable pub endOf : Phase → List ℕ → List ℕ
 endOf h s = cond (isEnd h) [] (cond (eqb (length s) 0) [] badLine)
+
+-- WHETHER A RECORD IS TAKEN
+unfoldable pub takes : List ℕ → ℕ → List ℕ → Bool
+takes d at p = leb (at + 40) (length d) && leb (length p) 255

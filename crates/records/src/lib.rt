@@ -1,246 +1,18 @@
-// What one whole record of the bench program does (document 01, "The bench program"): it is carried out upon a lent table, and its line is put into a
-// lent buffer. A line has at most 40 octets.
-use election::Answer;
+// One whole record of the bench program in any state of the run (document 01, "The bench program"): it is judged, and its turn is taken by `turns`.
+use answer_lines::LINE_ROOM;
+use turns::Phase;
+use turns::Step;
 ghost use mathlib.Core.Path.{_≡_};
 ghost use mathlib.Core.Bool.{true, false};
-ghost use Prim.Native.Nat.{ℕ, _+_, _≤_, _/_};
-ghost use mathlib.Core.List.{List};
-ghost use lib.ListN.{length, take};
+ghost use Prim.Native.Nat.{_+_, _≤_};
+ghost use lib.ListN.{length};
 ghost use Rattle.layout.specs.Words.{tableIn, Valid};
-ghost use Rattle.lines.specs.Lines.{Put};
-ghost use Rattle.records.specs.Records.{
-  badLine,
-  line,
-  offsetLine,
-  hasOffset,
-  readLine,
-  electedLine,
-  queryLine,
-  badTurn,
-  textTurn,
-  announceTurn,
-  withdrawTurn,
-  wordsIn,
-  queryTurn,
-  laterTurn,
-  turn,
-  stateIn,
-};
-ghost use Rattle.records.specs.Steps.{Written, Stepped, takes};
-
-// Where a run stands: no record was taken, records are carried out, nothing more is looked at.
-pub enum Phase {
-    Start,
-    Running,
-    Ended,
-}
-
-// The phase after a record, and the offset after its line.
-pub struct Step {
-    pub phase: Phase,
-    pub at: usize,
-}
-
-// The room that any line finds enough.
-pub const LINE_ROOM: usize = 40;
+ghost use Rattle.turns.specs.Turns.{stateIn};
+ghost use Rattle.turns.specs.Steps.{Stepped};
+ghost use Rattle.records.specs.Records.{laterTurn, turn, takes};
 
 // The most octets that a record's payload has.
 const MAX_PAYLOAD: usize = 255;
-
-// The most ready addresses that are read from a query.
-const MAX_READY: usize = 64;
-
-// Puts the line of a letter and a number.
-fn put_line(out: &mut [u8], at: usize, letter: u8, number: u8) -> usize
-    requires { ⌜ at + 40 ≤ length (now out) ⌝ }
-    ensures { λ r. ⌜ Written (now (out .entry)) at (line letter number) r (now (out .exit)) ⌝ }
-{
-    let mut end = lines::put_octet(out, at, letter);
-    end = lines::put_octet(out, end, b' ');
-    end = lines::put_decimal(out, end, number as u64);
-    lines::put_octet(out, end, b'\n')
-}
-
-// Puts the line of a letter, a number and an offset.
-fn put_offset(out: &mut [u8], at: usize, letter: u8, number: u8, offset: usize) -> usize
-    requires { ⌜ at + 40 ≤ length (now out) ⌝ }
-    ensures { λ r. ⌜ Written (now (out .entry)) at (offsetLine letter number offset) r (now (out .exit)) ⌝ }
-{
-    let mut end = lines::put_octet(out, at, letter);
-    end = lines::put_octet(out, end, b' ');
-    end = lines::put_decimal(out, end, number as u64);
-    end = lines::put_octet(out, end, b' ');
-    end = lines::put_decimal(out, end, offset as u64);
-    lines::put_octet(out, end, b'\n')
-}
-
-// Whether an offset is printed after a number: after 1 to 4, 6 and 13.
-fn has_offset(number: u8) -> bool
-    ensures { λ r. ⌜ r ≡ hasOffset number ⌝ }
-{
-    match number {
-        1..=4 => true,
-        6 => true,
-        13 => true,
-        _ => false,
-    }
-}
-
-// Puts the line for what was read: its number, and its offset where one is printed.
-fn put_read(out: &mut [u8], at: usize, letter: u8, number: u8, offset: usize) -> usize
-    requires { ⌜ at + 40 ≤ length (now out) ⌝ }
-    ensures { λ r. ⌜ Written (now (out .entry)) at (readLine letter number offset) r (now (out .exit)) ⌝ }
-{
-    if has_offset(number) {
-        return put_offset(out, at, letter, number, offset);
-    }
-    put_line(out, at, letter, number)
-}
-
-// Puts the line of an accepted query.
-fn put_elected(out: &mut [u8], at: usize, address: u32, n: u32) -> usize
-    requires { ⌜ at + 40 ≤ length (now out) ⌝ }
-    ensures { λ r. ⌜ Written (now (out .entry)) at (electedLine address n) r (now (out .exit)) ⌝ }
-{
-    let mut end = lines::put_run(out, at, b"q 0 ");
-    end = lines::put_dotted(out, end, address);
-    end = lines::put_octet(out, end, b' ');
-    end = lines::put_decimal(out, end, n as u64);
-    lines::put_octet(out, end, b'\n')
-}
-
-// Puts the line of an election's answer.
-fn put_answer(out: &mut [u8], at: usize, r: Answer) -> usize
-    requires { ⌜ at + 40 ≤ length (now out) ⌝ }
-    ensures { λ e. ⌜ Written (now (out .entry)) at (queryLine r) e (now (out .exit)) ⌝ }
-{
-    let number = r.number;
-    if number != 0 {
-        return put_line(out, at, b'q', number);
-    }
-    let address = r.address;
-    let n = r.n;
-    put_elected(out, at, address, n)
-}
-
-// Puts the line of a bad record, `x 16`, from offset `at` on and answers the offset after it; where it does not fit, the buffer stays as it is and the
-// answer is `at`.
-pub fn put_bad(out: &mut [u8], at: usize) -> usize
-    ensures { λ r. ⌜ Put (now (out .entry)) at badLine r (now (out .exit)) ⌝ }
-{
-    lines::put_run(out, at, b"x 16\n")
-}
-
-// A bad record: its line is put, and the run ends. The table stays as it is, whatever its words are.
-fn refuse(out: &mut [u8], at: usize) -> Step
-    requires { ⌜ at + 40 ≤ length (now out) ⌝ }
-    ensures { λ r. ⌜ ((w : List ℕ) → Valid w → Stepped (now (out .entry)) at (badTurn (tableIn w)) r w (now (out .exit))) ⌝ }
-{
-    let end = put_bad(out, at);
-    Step {
-        phase: Phase::Ended,
-        at: end,
-    }
-}
-
-// Copies words, as many as there are.
-fn copy_words(t: &mut [u32], from: &[u32])
-    requires { ⌜ length (now t) ≡ length (now from) ⌝ }
-    ensures { λ _. ⌜ now (t .exit) ≡ now (from .entry) ⌝ }
-{
-    let mut i = 0;
-    while i < t.len() {
-        t[i] = from[i];
-        i += 1;
-    }
-}
-
-// The first record: a text that names the segment.
-fn begin(t: &mut [u32], text: &[u8], out: &mut [u8], at: usize) -> Step
-    requires { ⌜ (at + 40 ≤ length (now out)) × Valid (now t) ⌝ }
-    ensures { λ r. ⌜ Stepped (now (out .entry)) at (textTurn (tableIn (now (t .entry))) (now (text .entry))) r (now (t .exit)) (now (out .exit)) ⌝ }
-{
-    let read = esi::read_text(text);
-    let number = read.number;
-    let offset = read.offset;
-    let end = put_read(out, at, b'p', number, offset);
-    if number != 0 {
-        return Step {
-            phase: Phase::Ended,
-            at: end,
-        };
-    }
-    let esi = read.esi;
-    let made = segment::fresh(&esi);
-    let words = made.table;
-    copy_words(t, &words);
-    Step {
-        phase: Phase::Running,
-        at: end,
-    }
-}
-
-// An announcement: 25 route octets, then communities.
-fn announce(t: &mut [u32], payload: &[u8], out: &mut [u8], at: usize) -> Step
-    requires { ⌜ (at + 40 ≤ length (now out)) × (25 ≤ length (now payload)) × Valid (now t) ⌝ }
-    ensures { λ r. ⌜ Stepped (now (out .entry)) at (announceTurn (tableIn (now (t .entry))) (now (payload .entry))) r (now (t .exit)) (now (out .exit)) ⌝ }
-{
-    let verdict = segment::announce(t, &payload[..25], &payload[25..]);
-    let number = verdict.number;
-    let offset = verdict.offset;
-    let end = put_read(out, at, b'a', number, offset);
-    Step {
-        phase: Phase::Running,
-        at: end,
-    }
-}
-
-// A withdrawal of an address.
-fn withdraw(t: &mut [u32], payload: &[u8], out: &mut [u8], at: usize) -> Step
-    requires { ⌜ (at + 40 ≤ length (now out)) × (length (now payload) ≡ 4) × Valid (now t) ⌝ }
-    ensures { λ r. ⌜ Stepped (now (out .entry)) at (withdrawTurn (tableIn (now (t .entry))) (now (payload .entry))) r (now (t .exit)) (now (out .exit)) ⌝ }
-{
-    let address = octets::u32_of(payload[0], payload[1], payload[2], payload[3]);
-    let number = segment::withdraw(t, address);
-    let end = put_line(out, at, b'w', number);
-    Step {
-        phase: Phase::Running,
-        at: end,
-    }
-}
-
-// The addresses that a run of octets says, four octets each, at the front of an array.
-fn addresses_in(s: &[u8]) -> [u32; 64]
-    requires { ⌜ length (now s) ≤ 256 ⌝ }
-    ensures { λ r. ⌜ take (length (now (s .entry)) / 4) r ≡ wordsIn (now (s .entry)) ⌝ }
-{
-    let mut ready = [0u32; MAX_READY];
-    let n = s.len() / 4;
-    let mut i = 0;
-    while i < n {
-        let p = 4 * i;
-        ready[i] = octets::u32_of(s[p], s[p + 1], s[p + 2], s[p + 3]);
-        i += 1;
-    }
-    ready
-}
-
-// A query: the tag, then the ready addresses.
-fn query(t: &[u32], payload: &[u8], out: &mut [u8], at: usize) -> Step
-    requires { ⌜ (at + 40 ≤ length (now out)) × (4 ≤ length (now payload)) × (length (now payload) ≤ 255) × Valid (now t) ⌝ }
-    ensures { λ r. ⌜ Stepped (now (out .entry)) at (queryTurn (tableIn (now (t .entry))) (now (payload .entry))) r (now (t .entry)) (now (out .exit)) ⌝ }
-{
-    let tag = octets::u32_of(payload[0], payload[1], payload[2], payload[3]);
-    let rest = &payload[4..];
-    let ready = addresses_in(rest);
-    let n = rest.len() / 4;
-    let answer = segment::elect(t, tag, &ready[..n]);
-    let end = put_answer(out, at, answer);
-    Step {
-        phase: Phase::Running,
-        at: end,
-    }
-}
 
 // A record after the first: judged, and carried out.
 fn later(t: &mut [u32], kind: u8, payload: &[u8], out: &mut [u8], at: usize) -> Step
@@ -250,26 +22,26 @@ fn later(t: &mut [u32], kind: u8, payload: &[u8], out: &mut [u8], at: usize) -> 
     let n = payload.len();
     if kind == 1 {
         if n < 25 {
-            return refuse(out, at);
+            return turns::refuse(out, at);
         }
-        return announce(t, payload, out, at);
+        return turns::announce(t, payload, out, at);
     }
     if kind == 2 {
         if n != 4 {
-            return refuse(out, at);
+            return turns::refuse(out, at);
         }
-        return withdraw(t, payload, out, at);
+        return turns::withdraw(t, payload, out, at);
     }
     if kind != 3 {
-        return refuse(out, at);
+        return turns::refuse(out, at);
     }
     if n < 4 {
-        return refuse(out, at);
+        return turns::refuse(out, at);
     }
     if n % 4 != 0 {
-        return refuse(out, at);
+        return turns::refuse(out, at);
     }
-    query(t, payload, out, at)
+    turns::query(t, payload, out, at)
 }
 
 // One whole record, in any state.
@@ -287,16 +59,16 @@ fn carry_out(
     match phase {
         Phase::Start => {
             if kind != 0 {
-                return refuse(out, at);
+                return turns::refuse(out, at);
             }
-            begin(t, payload, out, at)
+            turns::begin(t, payload, out, at)
         }
         Phase::Running => later(t, kind, payload, out, at),
         Phase::Ended => Step { phase, at },
     }
 }
 
-// One whole record, in any state: its line is put from offset `at` on. Where fewer than 40 octets are left there, or where the payload has more than
+// One whole record, in any state: its line is put from position `at` on. Where fewer than 40 octets are left there, or where the payload has more than
 // 255 octets, which no frame holds, nothing is done: the answer is `phase` and `at`, and the table and the buffer stay as they are.
 pub fn take_turn(
     t: &mut [u32],

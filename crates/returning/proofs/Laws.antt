@@ -11,7 +11,7 @@ use borrow.Author.Tests.{eq-eqb, ne-eqb}
 use Rattle.lists.specs.Lists.{all}
 use Rattle.lists.proofs.Bools.{bit-halves, one-of-two}
 use Rattle.address.specs.Address.{addressKey, isZero}
-use Rattle.keyed.specs.Keyed.{Rising, cut}
+use Rattle.keyed.specs.Keyed.{Rising, dropAt}
 use Rattle.keyed.proofs.Keyed as keyed
 use Rattle.keyed.proofs.Order.{remove-absent}
 use Rattle.rows.specs.Rows.{foundIn}
@@ -27,11 +27,11 @@ use Rattle.winner.specs.Winner.{better, entriesAt}
 use Rattle.returning.specs.Returning.{others, allUnder, reaches, sent, besideReference, advertised, returningOf}
 
 -- THE OTHER ROUTES
-picked-cut : {A : Type 0} (l : List A) (i : ℕ) → i < length l → picked (set (replicate (length l) true) i false) l ≡ cut l i
-unfolding picked cut
-picked-cut [] i h = absurd (not-suc-le-zero h)
-picked-cut (x ∷ l) zero h = picked-all l
-picked-cut (x ∷ l) (suc i) h = ap (x ∷_) (picked-cut l i (omega arith))
+picked-dropAt : {A : Type 0} (l : List A) (i : ℕ) → i < length l → picked (set (replicate (length l) true) i false) l ≡ dropAt l i
+unfolding picked dropAt
+picked-dropAt [] i h = absurd (not-suc-le-zero h)
+picked-dropAt (x ∷ l) zero h = picked-all l
+picked-dropAt (x ∷ l) (suc i) h = ap (x ∷_) (picked-dropAt l i (omega arith))
 
 module _ (es : List Entry) (short : length es ≤ 64) (rising : Rising entryKey 1 es) (a n all : ℕ) (z : n ≡ length es) (q : all ≡ setOf (replicate (min n 64) true)) where
   abbrev Others : ℕ → Type 0
@@ -55,7 +55,7 @@ module _ (es : List Entry) (short : length es ≤ 64) (rising : Rising entryKey 
       let bs = replicate (length es) true in
       others-of (set bs i false) s (length-set bs i false ∙ length-replicate (length es) true)
       (e ∙ ap (λ (x : ℕ). withoutPlace x i) is-all ∙ withoutPlace-set bs i (omega arith) (getD-replicate (length es) i true false l))
-      (picked-cut es i l ∙ sym (keyed.remove-present entryKey (addressKey a) es noEntry (keyed.present-of entryKey (addressKey a) es 1 noEntry rising (p .0)) ∙ ap (cut es) (p .1)))
+      (picked-dropAt es i l ∙ sym (keyed.remove-present entryKey (addressKey a) es noEntry (keyed.present-of entryKey (addressKey a) es 1 noEntry rising (p .0)) ∙ ap (dropAt es) (p .1)))
 
 -- A WALK over the routes of a set
 module _ (es : List Entry) (g : ℕ) where

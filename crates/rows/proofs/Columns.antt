@@ -8,7 +8,7 @@ use lib.ListN.{length, getD, set, take, drop, replicate, length-append, length-d
 use lib.Seq.{length-take-le, take-at, drop-at, drop-cons}
 use Rattle.lists.specs.Lists.{Every}
 use Rattle.lists.proofs.Lists.{every-take, every-drop, every-in}
-use Rattle.keyed.specs.Keyed.{spliced, cut}
+use Rattle.keyed.specs.Keyed.{spliced, dropAt}
 use Rattle.keyed.proofs.Keyed as keyed
 use Rattle.rows.specs.Rows.{rowsIn, flat, column, inserted, removed}
 use Rattle.rows.proofs.Moved.{words-split}
@@ -117,13 +117,13 @@ module _ (k c : ℕ) (l : List (List ℕ)) (x : List ℕ) (wide : Wide k l) wher
       ∙ inserted-parts k n at a b (r ++ x) la key (replicate k 0) lk (length-replicate k 0) h lb
       ∙ sym (rw (e, g) (append-assoc (a ++ (key ++ b)) r x ∙ append-assoc a (key ++ b) (r ++ x) ∙ ap (a ++_) (append-assoc key b (r ++ x))))
 
-  pub column-removed : (at : ℕ) → at < n → n ≤ c → removed k n at (column k c l ++ x) ≡ column k c (cut l at) ++ x
-  unfolding column cut
+  pub column-removed : (at : ℕ) → at < n → n ≤ c → removed k n at (column k c l ++ x) ≡ column k c (dropAt l at) ++ x
+  unfolding column dropAt
   column-removed at h f =
       let a = flat (take at l) in
       let b = flat (drop (suc at) l) in
       let row = getD l at [] in
-      let m : length (take at l ++ drop (suc at) l) ≡ n - 1 = omega (arith, keyed.length-cut l at h) in
+      let m : length (take at l ++ drop (suc at) l) ≡ n - 1 = omega (arith, keyed.length-dropAt l at h) in
       let g : c - length (take at l ++ drop (suc at) l) ≡ suc (c - n) = omega (arith, m) in
       let r : List ℕ = replicate ((c - n) * k) 0 in
       let split : flat l ≡ a ++ (row ++ b) = halves at ∙ ap (a ++_) (ap flat (drop-cons l at [] h) ∙ flat-cons row (drop (suc at) l)) in

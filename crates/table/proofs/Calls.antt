@@ -24,7 +24,7 @@ use Rattle.route.proofs.Laws.{route-fault, route-esi, route-address, offset-acc
 use Rattle.community.specs.Community.{listFits, electionIn, readList}
 use Rattle.community.specs.declared.ListRead.{ListRead}
 use Rattle.community.proofs.Laws.{list-refused, list-accepted, election-right}
-use Rattle.keyed.specs.Keyed.{spliced, cut, Rising, has, rank, insert, remove}
+use Rattle.keyed.specs.Keyed.{spliced, dropAt, Rising, has, rank, insert, remove}
 use Rattle.keyed.proofs.Keyed as keyed
 use Rattle.keyed.proofs.Order.{length-insert, length-remove-le}
 use Rattle.rows.specs.Rows.{foundIn}
@@ -130,7 +130,7 @@ module _ (t : Table) (w : WellFormed t) where
     unfolding withdrawn withdrawNumber
     withdrawn-missing i z h = alike t _ (refused-at 1 _ (z, tt) (ap not (found-missing entryKey (addressKey a) es i h .0))) refl
 
-    pub withdrawn-at : (i : ℕ) → isZero a ≡ false → foundIn entryKey (addressKey a) es ≡ At i → accepted (tableOf (t .esi) (cut es i)) ≡ withdrawn t a
+    pub withdrawn-at : (i : ℕ) → isZero a ≡ false → foundIn entryKey (addressKey a) es ≡ At i → accepted (tableOf (t .esi) (dropAt es i)) ≡ withdrawn t a
     unfolding withdrawn withdrawNumber
     withdrawn-at i z h =
         let f = found-at entryKey (addressKey a) es i h in

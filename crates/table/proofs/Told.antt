@@ -17,7 +17,7 @@ use Rattle.community.specs.declared.Election.{Election}
 use Rattle.community.specs.Community.{electionIn, readList}
 use Rattle.community.specs.declared.ListRead.{ListRead}
 use Rattle.community.proofs.Laws.{list-accepted}
-use Rattle.keyed.specs.Keyed.{spliced, cut, has, insert, remove}
+use Rattle.keyed.specs.Keyed.{spliced, dropAt, has, insert, remove}
 use Rattle.keyed.proofs.Keyed as keyed
 use Rattle.rows.specs.Rows.{column, flat, foundIn}
 use Rattle.rows.specs.declared.Found.the-variants.{At, Missing}
@@ -125,7 +125,7 @@ module _ (b : List ℕ) (h : Valid b) where
     pub withdrawn-missing : (i : ℕ) → isZero a ≡ false → foundIn entryKey (addressKey a) es ≡ Missing i → Withdrawn 9 b
     withdrawn-missing i z f = (unchanged (withdrawn t a) 9 0 (calls.withdrawn-missing t (h .sound) a i z f), h)
 
-    pub withdrawn-at : (i : ℕ) → isZero a ≡ false → foundIn entryKey (addressKey a) es ≡ At i → (x : List ℕ) → x ≡ wordsOf (tableOf (t .esi) (cut es i)) → Withdrawn 0 x
+    pub withdrawn-at : (i : ℕ) → isZero a ≡ false → foundIn entryKey (addressKey a) es ≡ At i → (x : List ℕ) → x ≡ wordsOf (tableOf (t .esi) (dropAt es i)) → Withdrawn 0 x
     withdrawn-at i z f x q = withdrawn-valid 0 x (stored-of (withdrawn t a) _ x (calls.withdrawn-at t (h .sound) a i z f) q)
 
   -- ANNOUNCEMENTS

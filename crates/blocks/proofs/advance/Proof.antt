@@ -1,7 +1,7 @@
 -- `advance` meets its contract: too little room and an ended run are reasons to stop. Assumes nothing.
 use native.Mathlib.Omega.{arith}
 use mathlib.Core.Path.{sym, _∙_}
-use Rattle.records.specs.Records.{stateIn}
+use Rattle.turns.specs.Turns.{stateIn}
 use Rattle.blocks.proofs.Blocks.{stopped-ended, stopped-room, advanced-none}
 use borrow.Author.Needs.{needs}
 use Rattle.blocks.proofs.advance.Statement.{statement}

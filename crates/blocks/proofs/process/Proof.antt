@@ -5,7 +5,7 @@ use mathlib.Core.Path.{_≡_, refl, sym, _∙_}
 use lib.ListN.{length}
 use Rattle.layout.specs.Words.{Valid}
 use Rattle.layout.proofs.Words.{length-valid}
-use Rattle.records.specs.Records.{stateIn}
+use Rattle.turns.specs.Turns.{stateIn}
 use Rattle.blocks.specs.Blocks.{Ran}
 use Rattle.blocks.proofs.Blocks.{written-length, ran-none, ran-next, ran-stopped}
 use borrow.Author.Needs.{needs}

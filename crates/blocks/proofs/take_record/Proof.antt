@@ -1,10 +1,11 @@
--- `take_record` meets its contract: what stands at the place decides, one law for each case. Assumes nothing.
+-- `take_record` meets its contract: what stands at the position decides, one law for each case. Assumes nothing.
 use Prim.Native.Nat.{_+_}
 use native.Mathlib.Omega.{arith}
 use mathlib.Core.Path.{sym, _∙_}
-use Rattle.frames.proofs.Laws.{frame-told, found-length}
-use Rattle.records.specs.Records.{stateIn}
-use Rattle.records.proofs.Laws.{written, takes-room}
+use Rattle.frames.proofs.Laws.{frame-told, whole-at-length}
+use Rattle.turns.specs.Turns.{stateIn}
+use Rattle.answer_lines.proofs.Laws.{written}
+use Rattle.records.proofs.Laws.{takes-room}
 use Rattle.blocks.proofs.Blocks.{part-length, stopped-nothing, stopped-cut, advanced-none, advanced-bad, advanced-whole}
 use borrow.Author.Needs.{needs}
 use Rattle.blocks.proofs.take_record.Statement.{statement}
@@ -56,7 +57,7 @@ returns-4 c =
     let a = s .args in
     let w = frame-told (a .input .now) (a .used) (sym (c .before .before .before .before .before .before .before .before .before .before .before .frame-at .ensures) ∙ c .before .before .before .before .before .before .before .before .before .frame .given .1) in
     let o = c .before .before .before .before .before .before .before .before .before .before .before .before .before .shared-slice-known .given (a .used + 3) in
-    let t = c .before .before .before .before .take-turn .ensures .0 (takes-room (a .out .now) (a .wrote) _ (omega arith) (part-length _ _ _ (w .fits) (found-length (a .input .now) (o .fits) w))) in
+    let t = c .before .before .before .before .take-turn .ensures .0 (takes-room (a .out .now) (a .wrote) _ (omega arith) (part-length _ _ _ (w .fits) (whole-at-length (a .input .now) (o .fits) w))) in
     (advanced-whole (stateIn (a .phase) (a .t .now)) (a .input .now) (a .used) (a .out .now) (a .wrote) (s .pre .0) _ _ _ _ _ _ (s .pre .2) w t, t .kept)
 
 pub take-record-spec : {M : Type 1} → statement M

@@ -1,4 +1,4 @@
--- `crc_octet` meets its contract: the high bits move down, and the tables say what eight bits make of the low octet. Assumes nothing.
+-- `crc_octet` meets its contract: the high bits move down, and the table says what eight bits make of the low octet. Assumes nothing.
 use mathlib.Core.Path.{sym}
 use Rattle.hrw.proofs.Laws.{crcOctet-parts}
 use borrow.Author.Needs.{needs}

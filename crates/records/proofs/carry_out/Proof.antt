@@ -1,7 +1,8 @@
 -- `carry_out` meets its contract: the turn of a record, by phase. Assumes nothing.
 use native.Mathlib.Omega.{arith}
 use Rattle.layout.specs.Words.{tableIn}
-use Rattle.records.proofs.Turns.{stepped-as, turn-begin, turn-none, turn-later, stepped-ended}
+use Rattle.turns.proofs.Laws.{stepped-as}
+use Rattle.records.proofs.Turns.{turn-begin, turn-none, turn-later, stepped-ended}
 use borrow.Author.Needs.{needs}
 use Rattle.records.proofs.carry_out.Statement.{statement}
 use Rattle.records.proofs.carry_out.Tie as tie

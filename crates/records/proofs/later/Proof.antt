@@ -1,7 +1,8 @@
 -- `later` meets its contract: which turn each branch takes. Assumes nothing.
 use native.Mathlib.Omega.{arith}
 use Rattle.layout.specs.Words.{tableIn}
-use Rattle.records.proofs.Turns.{stepped-as, later-announce, later-announce-not, later-withdraw, later-withdraw-not, later-none, later-query, later-query-short, later-query-odd}
+use Rattle.turns.proofs.Laws.{stepped-as}
+use Rattle.records.proofs.Turns.{later-announce, later-announce-not, later-withdraw, later-withdraw-not, later-none, later-query, later-query-short, later-query-odd}
 use borrow.Author.Needs.{needs}
 use Rattle.records.proofs.later.Statement.{statement}
 use Rattle.records.proofs.later.Tie as tie

@@ -1,0 +1,2 @@
+-- Laws of answer lines.
+pub mod Laws

@@ -1,0 +1,113 @@
+// The tables of the programs that run outside values, all of one segment: router n has the address 10.0.0.n.
+use table::WORDS;
+ghost use Rattle.layout.specs.Words.{Valid};
+
+// 10.0.0.0
+const NETWORK: u32 = 0x0A000000;
+
+// The segment of all examples.
+fn identifier() -> [u8; 10] {
+    [0x00, 0x11, 0x22, 0x33, 0x44, 0x55, 0x66, 0x77, 0x88, 0x99]
+}
+
+// A table of one segment.
+pub struct Table {
+    pub words: [u32; WORDS],
+}
+
+// What an announcement answers, and the table after it.
+pub struct Change {
+    pub number: u8,
+    pub offset: usize,
+    pub table: Table,
+}
+
+// An empty table.
+pub fn empty_table() -> Table
+    ensures { λ r. ⌜ Valid (r .words) ⌝ }
+{
+    let esi = identifier();
+    let made = segment::fresh(&esi);
+    let words = made.table;
+    Table { words: words }
+}
+
+// The route of router n.
+pub fn route_of(n: u8) -> [u8; 25] {
+    let esi = identifier();
+    let distinguisher = [0u8; 8];
+    let mut octets = [0u8; 25];
+    route::write(&mut octets, &distinguisher, &esi, NETWORK + n as u32);
+    octets
+}
+
+// Router n announces a preference and a DP bit under an algorithm.
+pub fn announce(t: Table, n: u8, algorithm: u8, preference: u16, dp: bool) -> Change
+    requires { ⌜ Valid (t .words) ⌝ }
+    ensures { λ r. ⌜ Valid (r .table .words) ⌝ }
+{
+    let octets = route_of(n);
+    let mut community = [0u8; 8];
+    community::write(&mut community, algorithm, false, dp, preference);
+    let mut words = t.words;
+    let told = segment::announce(&mut words, &octets, &community);
+    Change {
+        number: told.number,
+        offset: told.offset,
+        table: Table { words: words },
+    }
+}
+
+// The table after router n announced; a refusal leaves it as it was.
+pub fn with(t: Table, n: u8, algorithm: u8, preference: u16, dp: bool) -> Table
+    requires { ⌜ Valid (t .words) ⌝ }
+    ensures { λ r. ⌜ Valid (r .words) ⌝ }
+{
+    let change = announce(t, n, algorithm, preference, dp);
+    change.table
+}
+
+// The table without router n.
+pub fn without(t: Table, n: u8) -> Table
+    requires { ⌜ Valid (t .words) ⌝ }
+    ensures { λ r. ⌜ Valid (r .words) ⌝ }
+{
+    let mut words = t.words;
+    segment::withdraw(&mut words, NETWORK + n as u32);
+    Table { words: words }
+}
+
+// The number of the router that is elected for a tag, with an empty ready list; 0 if none is.
+pub fn elected(t: Table, tag: u32) -> u64
+    requires { ⌜ Valid (t .words) ⌝ }
+{
+    let none = [0u32; 1];
+    let words = t.words;
+    let answer = segment::elect(&words, tag, &none[..0]);
+    (answer.address % 256) as u64
+}
+
+// The number that an election answers.
+pub fn refusal(t: Table, tag: u32) -> u64
+    requires { ⌜ Valid (t .words) ⌝ }
+{
+    let none = [0u32; 1];
+    let words = t.words;
+    let answer = segment::elect(&words, tag, &none[..0]);
+    answer.number as u64
+}
+
+// Highest-Preference,
+pub const HIGHEST: u8 = 2;
+
+// and Lowest-Preference.
+pub const LOWEST: u8 = 3;
+
+// vES2 of RFC 9785, section 4.1: 100 in PE1, 200 in PE2, 300 in PE3.
+pub fn second_segment(algorithm: u8, dp: bool) -> Table
+    ensures { λ r. ⌜ Valid (r .words) ⌝ }
+{
+    let mut t = with(empty_table(), 1, algorithm, 100, dp);
+    t = with(t, 2, algorithm, 200, dp);
+    with(t, 3, algorithm, 300, dp)
+}

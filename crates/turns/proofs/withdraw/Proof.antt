@@ -1,0 +1,31 @@
+-- `withdraw` meets its contract: the address is read, and the table's answer is told. Assumes nothing.
+use mathlib.Core.Path.{ap, _∙_}
+use Rattle.octets.specs.Octets.{numberOf}
+use Rattle.layout.specs.Words.{tableIn}
+use Rattle.turns.proofs.Laws.{four, stepped-withdraw}
+use borrow.Author.Needs.{needs}
+use Rattle.turns.proofs.withdraw.Statement.{statement}
+use Rattle.turns.proofs.withdraw.Tie as tie
+
+returns : tie.Need-returns
+returns c =
+    let w = c .before .before .before .before .before .before in
+    let u = c .before .before .before .before .before .before .before .before in
+    let s = c .before .before .before .before .before .before .before .before .before .before .before .before .before .before .before .before in
+    let p = s .args .payload .now in
+    stepped-withdraw (tableIn (s .args .t .now)) p (u .u32-of .ensures ∙ ap numberOf (four p (s .pre .1))) (w .withdraw .ensures .0) (w .withdraw .ensures .1 .0) (c .before .before .put-line .ensures)
+
+pub withdraw-spec : {M : Type 1} → statement M
+withdraw-spec =
+    tie.close
+    (tie.spec
+    (λ c. search needs)
+    (λ c. search needs)
+    (λ c. search needs)
+    (λ c. search needs)
+    (λ c κs. search needs)
+    (λ c κs. search needs)
+    (λ c κs. search needs)
+    (λ c. search needs)
+    (λ c. search needs)
+    returns)
