@@ -5,7 +5,7 @@ use native.Mathlib.Omega.{arith}
 use mathlib.Core.Path.{_≡_, refl, ap, ap₂, _∙_, sym}
 use mathlib.Core.Bool.{Bool, _&&_, and-true, and-assoc}
 use mathlib.Core.List.{List, [], _∷_, _++_}
-use lib.ListN.{length, getD, length-append}
+use lib.ListN.{length, getD, drop, length-append}
 use lib.Pow.{pow-add}
 use lib.Dec.{eqb}
 use lib.Arith.{digits-div, digits-mod}
@@ -15,7 +15,10 @@ use Rattle.octets.specs.Octets.{numberOf, octetsOf, allAre}
 use Rattle.octets.proofs.Laws.{length-octets, number-octets-small, number-append, four-octets}
 use Rattle.rows.specs.Rows.{rowKey}
 use Rattle.rows.proofs.Compared.{Words, key-lt}
-use Rattle.address.specs.Address.{IsAddress, ipv4, ipv6, octetsIn, familyOf, octetsOfAddress, addressKey, SeventeenOctets, isZero}
+use Rattle.address.specs.declared.Family.{Family}
+use Rattle.address.specs.declared.Family.the-variants.{V4, V6}
+use Rattle.address.specs.declared.Address.{Address}
+use Rattle.address.specs.Address.{rowUnder, addressRow, IsAddress, ipv4, ipv6, octetsIn, familyOf, octetsOfAddress, addressKey, SeventeenOctets, isZero}
 
 abbrev base : ℕ
 base = 4294967296
@@ -103,6 +106,31 @@ key-injective (w ∷ r) (v ∷ s) n o p e =
 pub length-address : (r : List ℕ) → IsAddress r → length r ≡ 5
 length-address r (ipv4 a e) = ap length e
 length-address r (ipv6 a b c d e) = ap length e
+
+pub family-small : (r : List ℕ) → IsAddress r → getD r 0 0 < 256
+family-small r (ipv4 a e) = rw e (omega arith)
+family-small r (ipv6 a b c d e) = rw e (omega arith)
+
+pub words-after : (r : List ℕ) → IsAddress r → getD r 1 0 ∷ getD r 2 0 ∷ getD r 3 0 ∷ getD r 4 0 ∷ [] ≡ drop 1 r
+words-after r (ipv4 a e) = rw e
+words-after r (ipv6 a b c d e) = rw e
+
+-- what is handed in is an address
+pub row-address : (a : Address) → IsAddress (addressRow a)
+unfolding addressRow
+row-address a = go (a .family)
+  where
+    go : (f : Family) → IsAddress (rowUnder f (a .w0) (a .w1) (a .w2) (a .w3))
+    go V4 = ipv4 (a .w0) refl
+    go V6 = ipv6 (a .w0) (a .w1) (a .w2) (a .w3) refl
+
+pub row-words : (a : Address) → a .w0 < base → a .w1 < base → a .w2 < base → a .w3 < base → Words (addressRow a)
+unfolding addressRow
+row-words a p q r s = go (a .family)
+  where
+    go : (f : Family) → Words (rowUnder f (a .w0) (a .w1) (a .w2) (a .w3))
+    go V4 = words-cons 4 (a .w0 ∷ 0 ∷ 0 ∷ 0 ∷ []) (omega arith) (words-four (a .w0) 0 0 0 p (omega arith) (omega arith) (omega arith))
+    go V6 = words-cons 6 (a .w0 ∷ a .w1 ∷ a .w2 ∷ a .w3 ∷ []) (omega arith) (words-four (a .w0) (a .w1) (a .w2) (a .w3) p q r s)
 
 key-head : (w : ℕ) (r : List ℕ) → 1 ≤ w → 1 ≤ addressKey (w ∷ r)
 unfolding addressKey rowKey

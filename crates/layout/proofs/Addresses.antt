@@ -13,16 +13,13 @@ use Rattle.octets.proofs.Laws.{length-octets}
 use Rattle.rows.specs.Rows.{rowKey}
 use Rattle.rows.proofs.Compared.{Words, words-part}
 use Rattle.address.specs.Address.{IsAddress, ipv4, ipv6, octetsIn, familyOf, octetsOfAddress, addressNumber}
+use Rattle.address.proofs.Laws as address
+use Rattle.address.proofs.Laws.{words-after}
 use Rattle.layout.specs.Table.{Entry, noEntry, AddressRight}
 use Rattle.layout.specs.Words.{tableIn, Valid}
 use Rattle.layout.proofs.Words.{address-row, address-word}
 
 -- AN ADDRESS
-family-four : (r : List ℕ) → IsAddress r → familyOf r < 256
-unfolding familyOf
-family-four r (ipv4 a e) = rw e (omega arith)
-family-four r (ipv6 a b c d e) = rw e (omega arith)
-
 -- the low 32 bits of an address are its first word or its last
 low-four : (r : List ℕ) → IsAddress r → Words r → getD r 0 0 ≡ 4 → getD r 1 0 ≡ addressNumber r % 2 ^ 32
 unfolding addressNumber familyOf
@@ -46,7 +43,7 @@ module _ (b : List ℕ) (h : Valid b) (i : ℕ) (l : i < length (tableIn b .entr
   family-word = let n : 5 * i ≡ 5 * i + 0 = omega arith in ap (λ (m : ℕ). getD b m 0) n ∙ address-word b h i l 0 (omega arith)
 
   pub family-small : getD b (5 * i) 0 < 256
-  family-small = rw family-word (family-four r is-address)
+  family-small = let n : 5 * i ≡ 5 * i + 0 = omega arith in rw (n, address-word b h i l 0 (omega arith)) (address.family-small r is-address)
 
   words-in : Words b → Words r
   words-in o = rw (← address-row b h i l) (words-part 5 (i * 5) b o)
@@ -62,8 +59,4 @@ module _ (b : List ℕ) (h : Valid b) (i : ℕ) (l : i < length (tableIn b .entr
   pub octets-words : octetsIn (getD b (5 * i + 1) 0 ∷ getD b (5 * i + 2) 0 ∷ getD b (5 * i + 3) 0 ∷ getD b (5 * i + 4) 0 ∷ []) ≡ octetsOfAddress r
   unfolding octetsOfAddress
   octets-words =
-      rw (address-word b h i l 1 (omega arith), address-word b h i l 2 (omega arith), address-word b h i l 3 (omega arith), address-word b h i l 4 (omega arith)) (ap octetsIn (four r is-address))
-    where
-      four : (s : List ℕ) → IsAddress s → getD s 1 0 ∷ getD s 2 0 ∷ getD s 3 0 ∷ getD s 4 0 ∷ [] ≡ drop 1 s
-      four s (ipv4 a e) = rw e
-      four s (ipv6 a b c d e) = rw e
+      rw (address-word b h i l 1 (omega arith), address-word b h i l 2 (omega arith), address-word b h i l 3 (omega arith), address-word b h i l 4 (omega arith)) (ap octetsIn (words-after r is-address))

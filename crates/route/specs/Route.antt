@@ -3,6 +3,8 @@
 -- route has 25 octets or 37.
 --   totalOf b                 == how many octets a route has whose address has b bits: 37 for 128, else 25
 --   routeTotal s              == how many octets the route s should have
+--   wordAt i s                == the number of the four octets from offset i on
+--   ipv4In s, ipv6In s        == the address of each family that the octets from offset 21 on say
 --   routeDistinguisher s, routeEsi s, routeOriginator s  == the three fields of the route s
 --   routeAddress s            == the originator's address as a row of words, which is what an address is in every definition
 --   routeNumber s             == 0, or the number of the first check that refuses the route s
@@ -49,15 +51,17 @@ totalOf b = cond (eqb b 128) 37 25
 abbrev pub routeTotal : List ℕ → ℕ
 routeTotal s = totalOf (getD s 20 0)
 
--- the word at offset i
 abbrev pub wordAt : ℕ → List ℕ → ℕ
 wordAt i s = numberOf (take 4 (drop i s))
 
+unfoldable pub ipv4In : List ℕ → Address
+ipv4In s = record { family = V4; w0 = wordAt 21 s; w1 = 0; w2 = 0; w3 = 0 }
+
+unfoldable pub ipv6In : List ℕ → Address
+ipv6In s = record { family = V6; w0 = wordAt 21 s; w1 = wordAt 25 s; w2 = wordAt 29 s; w3 = wordAt 33 s }
+
 unfoldable pub routeOriginator : List ℕ → Address
-routeOriginator s =
-    cond (eqb (getD s 20 0) 128)
-    (record { family = V6; w0 = wordAt 21 s; w1 = wordAt 25 s; w2 = wordAt 29 s; w3 = wordAt 33 s })
-    (record { family = V4; w0 = wordAt 21 s; w1 = 0; w2 = 0; w3 = 0 })
+routeOriginator s = cond (eqb (getD s 20 0) 128) (ipv6In s) (ipv4In s)
 
 unfoldable pub routeAddress : List ℕ → List ℕ
 routeAddress s = addressRow (routeOriginator s)
@@ -130,7 +134,7 @@ unfoldable pub bitsOf : List ℕ → ℕ
 bitsOf r = cond (eqb (familyOf r) 6) 128 32
 
 unfoldable pub routeOctets : List ℕ → List ℕ → List ℕ → List ℕ
-routeOctets d e r = 4 ∷ totalOf (bitsOf r) - 2 ∷ d ++ (e ++ bitsOf r ∷ take (bitsOf r / 8) (octetsOfAddress r))
+routeOctets d e r = 4 ∷ (totalOf (bitsOf r) - 2) ∷ d ++ (e ++ bitsOf r ∷ take (bitsOf r / 8) (octetsOfAddress r))
 
 unfoldable pub writeRouteNumber : List ℕ → List ℕ → List ℕ → ℕ → ℕ
 writeRouteNumber d e r n =

@@ -8,11 +8,16 @@ use refusals::WRONG_ADDRESS_LENGTH;
 use refusals::WRONG_LENGTH;
 use refusals::WRONG_TYPE;
 ghost use mathlib.Core.Path.{_≡_};
+ghost use Prim.Native.Nat.{_≤_};
+ghost use mathlib.Core.Bool.{_||_};
 ghost use lib.ListN.{length, take};
+ghost use lib.Dec.{eqb};
 ghost use Rattle.address.specs.Address.{addressRow, familyOf, octetsOfAddress};
 ghost use Rattle.route.specs.Route.{
   totalOf,
   routeTotal,
+  ipv4In,
+  ipv6In,
   routeOriginator,
   bitsOf,
   Fault,
@@ -65,6 +70,16 @@ pub fn offset(c: Checked) -> usize
     }
 }
 
+// Whether a number is the length of an address in bits.
+fn is_address_length(bits: u8) -> bool
+    ensures { λ r. ⌜ r ≡ (eqb bits 32 || eqb bits 128) ⌝ }
+{
+    if bits == 32 {
+        return true;
+    }
+    bits == 128
+}
+
 // How many octets a route has whose address has so many bits.
 fn total(bits: u8) -> usize
     ensures { λ r. ⌜ r ≡ totalOf bits ⌝ }
@@ -75,21 +90,27 @@ fn total(bits: u8) -> usize
     25
 }
 
-// The originator's address in a route of the right length.
-fn originator(s: &[u8]) -> Address
-    requires { ⌜ length (now s) ≡ routeTotal (now s) ⌝ }
-    ensures { λ r. ⌜ r ≡ routeOriginator (now (s .entry)) ⌝ }
+// The IPv4 address in a route.
+fn ipv4(s: &[u8]) -> Address
+    requires { ⌜ 25 ≤ length (now s) ⌝ }
+    ensures { λ r. ⌜ r ≡ ipv4In (now (s .entry)) ⌝ }
 {
     let w0 = octets::u32_of(s[21], s[22], s[23], s[24]);
-    if s[20] != 128 {
-        return Address {
-            family: Family::V4,
-            w0: w0,
-            w1: 0,
-            w2: 0,
-            w3: 0,
-        };
+    Address {
+        family: Family::V4,
+        w0: w0,
+        w1: 0,
+        w2: 0,
+        w3: 0,
     }
+}
+
+// The IPv6 address in a route.
+fn ipv6(s: &[u8]) -> Address
+    requires { ⌜ 37 ≤ length (now s) ⌝ }
+    ensures { λ r. ⌜ r ≡ ipv6In (now (s .entry)) ⌝ }
+{
+    let w0 = octets::u32_of(s[21], s[22], s[23], s[24]);
     let w1 = octets::u32_of(s[25], s[26], s[27], s[28]);
     let w2 = octets::u32_of(s[29], s[30], s[31], s[32]);
     let w3 = octets::u32_of(s[33], s[34], s[35], s[36]);
@@ -100,6 +121,17 @@ fn originator(s: &[u8]) -> Address
         w2: w2,
         w3: w3,
     }
+}
+
+// The originator's address in a route of the right length.
+fn originator(s: &[u8]) -> Address
+    requires { ⌜ length (now s) ≡ routeTotal (now s) ⌝ }
+    ensures { λ r. ⌜ r ≡ routeOriginator (now (s .entry)) ⌝ }
+{
+    if s[20] == 128 {
+        return ipv6(s);
+    }
+    ipv4(s)
 }
 
 // Checks a route, in document 01's order: fewer than 21 octets, 1; type not 4, 2; address length neither 32 nor 128, 3; not 25 (37) octets or length octet
@@ -119,7 +151,7 @@ pub fn check(s: &[u8]) -> Checked
     if s[0] != 4 {
         return Checked::Refused(WRONG_TYPE, 0);
     }
-    if s[20] != 32 && s[20] != 128 {
+    if !is_address_length(s[20]) {
         return Checked::Refused(WRONG_ADDRESS_LENGTH, 20);
     }
     let wanted = total(s[20]);
