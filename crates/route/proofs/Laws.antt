@@ -16,6 +16,7 @@ use Rattle.address.specs.declared.Family.{Family}
 use Rattle.address.specs.Address.{rowUnder, addressRow, IsAddress, ipv4, ipv6, octetsIn, familyOf, octetsOfAddress, isZero}
 use Rattle.address.specs.declared.Address.{Address}
 use Rattle.address.specs.declared.Family.the-variants.{V4, V6}
+use Rattle.address.proofs.Laws.{row-address}
 use Rattle.rows.proofs.Compared.{Words}
 use Rattle.esi.specs.Reserved.{reserved}
 use Rattle.esi.proofs.Laws.{length-not-reserved}
@@ -157,6 +158,10 @@ module _ (s : List ℕ) where
   pub originator-four : (getD s 20 0 ≡ 128 → ⊥) → ipv4In s ≡ routeOriginator s
   unfolding routeOriginator
   originator-four n = rw (ne-eqb (getD s 20 0) 128 n)
+
+pub route-is-address : (s : List ℕ) → IsAddress (routeAddress s)
+unfolding routeAddress
+route-is-address s = row-address (routeOriginator s)
 
 -- WHAT AN ACCEPTED ROUTE HAS, from the number alone
 module _ (s : List ℕ) (h : routeNumber s ≡ 0) where

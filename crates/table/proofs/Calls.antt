@@ -14,13 +14,14 @@ use Rattle.lists.proofs.Bools.{by-test, cond-by, eq-not, ne-not}
 use Rattle.lists.proofs.Checks.{passed-on, refused-at, refused-none, passed, telling-own}
 use Rattle.octets.specs.Octets.{sameNumbers}
 use Rattle.octets.proofs.Laws.{same-equal}
-use Rattle.address.specs.Address.{addressKey, isZero}
-use Rattle.address.proofs.Laws.{not-zero}
+use Rattle.address.specs.Address.{addressRow, addressKey, isZero}
+use Rattle.address.specs.declared.Address.{Address}
+use Rattle.address.proofs.Laws.{key-above}
 use Rattle.esi.specs.Reserved.{reserved}
 use Rattle.route.specs.Route.{routeEsi, routeAddress, routeNumber, routeOffset, Fault, checkedNumber, checkedOffset, routeChecked}
 use Rattle.route.specs.declared.Checked.{Checked}
 use Rattle.route.specs.declared.Checked.the-variants.{Originator, Refused}
-use Rattle.route.proofs.Laws.{route-fault, route-esi, route-address, offset-accepted, told-originator, told-refused}
+use Rattle.route.proofs.Laws.{route-fault, route-is-address, route-esi, route-address, offset-accepted, told-originator, told-refused}
 use Rattle.community.specs.Community.{listFits, electionIn, readList}
 use Rattle.community.specs.declared.ListRead.{ListRead}
 use Rattle.community.proofs.Laws.{list-refused, list-accepted, election-right}
@@ -30,7 +31,7 @@ use Rattle.keyed.proofs.Order.{length-insert, length-remove-le}
 use Rattle.rows.specs.Rows.{foundIn}
 use Rattle.rows.specs.declared.Found.the-variants.{At, Missing}
 use Rattle.rows.proofs.Places.{found-at, found-missing}
-use Rattle.layout.specs.Table.{Entry, entryKey, noEntry, entryOf, EntryRight, Table, tableOf, WellFormed, ownerOf}
+use Rattle.layout.specs.Table.{Entry, entryKey, noEntry, entryOf, EntryRight, AddressRight, Table, tableOf, WellFormed, ownerOf}
 use Rattle.table.specs.Table.{Change, announceNumber, withdrawNumber, changed, freshTable, announced, withdrawn}
 use Rattle.table.specs.Steps.{admitted}
 
@@ -51,7 +52,7 @@ module _ {n p m q : ℕ} (old new : Table) (e : n ≡ m) (f : p ≡ q) where
 -- FRESH
 empty-kept : (i : List ℕ) → (reserved i ≡ false) ⊎ (i ≡ replicate 10 0) → WellFormed (tableOf i [])
 unfolding Rising Every
-empty-kept i o = record { owner = ⊎-elim (λ h. inl h) (λ h. inr (h, refl)) o; short = omega arith; rising = tt; right = tt }
+empty-kept i o = record { owner = ⊎-elim (λ h. inl h) (λ h. inr (h, refl)) o; short = omega arith; rising = tt; right = tt; addresses = tt }
 
 pub fresh-kept : (i : List ℕ) → WellFormed (freshTable i .table)
 unfolding freshTable ownerOf
@@ -98,7 +99,7 @@ module _ (t : Table) (w : WellFormed t) where
     announced-admitted n s l = alike t _ (passed-on 3 _ (eq-not n, (ap not s, (ap not l, tt)))) (sym (offset-accepted r n))
 
     -- the same, from what the steps of the call answer
-    module _ (a : ℕ) (h : routeChecked r ≡ Originator a) where
+    module _ (a : Address) (h : routeChecked r ≡ Originator a) where
       route : routeNumber r ≡ 0
       route = told-originator r a h .0
 
@@ -113,7 +114,8 @@ module _ (t : Table) (w : WellFormed t) where
           alike t _ (refused-at 2 _ (eq-not route, (ap not s, tt)) (ap not f)) (sym (offset-accepted r route))
 
       pub done : (l : ListRead) (e : Entry) (x : Change) → sameNumbers (t .esi) (routeEsi r) ≡ true → l ≡ readList c → l .number ≡ 0
-          → e ≡ entryOf a (l .election) → x ≡ admitted t e → x ≡ announced t r c
+          → e ≡ entryOf (addressRow a) (l .election) → x ≡ admitted t e → x ≡ announced t r c
+      unfolding routeAddress
       done l e x s q n f g =
           let told = told-originator r a h in
           let list = list-accepted c (sym (ap (λ (y : ListRead). y .number) q) ∙ n) in
@@ -121,7 +123,7 @@ module _ (t : Table) (w : WellFormed t) where
           g ∙ rw (f, told .1, says) (announced-admitted (told .0) s (list .0))
 
   -- WITHDRAWALS
-  module _ (a : ℕ) where
+  module _ (a : List ℕ) where
     pub withdrawn-zero : isZero a ≡ true → refused 6 t ≡ withdrawn t a
     unfolding withdrawn withdrawNumber
     withdrawn-zero z = alike t _ (refused-at 0 _ tt z) refl
@@ -189,11 +191,12 @@ module _ (t : Table) (w : WellFormed t) where
           record {
             owner = inl (ap reserved own ∙ route-esi r route);
             short = length-inserted e l (w .rising) (w .short) (passed-room (t .esi) r c p (length l) h);
-            rising = keyed.rising-insert entryKey e l 1 (not-zero (routeAddress r) (route-address r route)) (w .rising);
+            rising = keyed.rising-insert entryKey e l 1 (key-above (routeAddress r) (route-is-address r)) (w .rising);
             right = keyed.every-insert entryKey EntryRight e l (right .0, ap (entryOf (routeAddress r)) (right .1)) (w .right);
+            addresses = keyed.every-insert entryKey AddressRight e l (route-is-address r, route-address r route) (w .addresses);
           }
 
-  pub withdrawn-kept : (a : ℕ) → WellFormed (withdrawn t a .table)
+  pub withdrawn-kept : (a : List ℕ) → WellFormed (withdrawn t a .table)
   unfolding withdrawn
   withdrawn-kept a = chosen-kept (withdrawNumber a (has entryKey k (t .entries))) 0 t (tableOf (t .esi) (remove entryKey k (t .entries))) w (λ _. new)
     where
@@ -208,6 +211,7 @@ module _ (t : Table) (w : WellFormed t) where
             short = omega (arith, fewer, w .short);
             rising = keyed.rising-remove entryKey k (t .entries) 1 (w .rising);
             right = keyed.every-remove entryKey EntryRight k (t .entries) (w .right);
+            addresses = keyed.every-remove entryKey AddressRight k (t .entries) (w .addresses);
           }
 
   pub announced-fault : (r c : List ℕ) → Fault r (routeNumber r) (announced t r c .offset)

@@ -1,5 +1,5 @@
 -- Laws of the calls over a table's words: what each return answers and leaves, and that the words stay a table's. Assumes nothing.
-use Prim.Native.Nat.{ℕ, _≤_, _<_}
+use Prim.Native.Nat.{ℕ, _*_, _≤_, _<_}
 use native.Mathlib.Omega.{arith}
 use mathlib.Core.Path.{_≡_, refl, ap, _∙_, sym, subst}
 use mathlib.Core.Bool.{true, false, cond}
@@ -9,8 +9,9 @@ use lib.Seq.{length-take-le}
 use lib.Dec.{eqb}
 use Rattle.lists.specs.Lists.{Every}
 use Rattle.lists.proofs.Bools.{cond-by}
-use Rattle.address.specs.Address.{addressKey, addressRow, isZero}
-use Rattle.address.proofs.Laws.{key-injective}
+use Rattle.lists.proofs.Lists.{every-in}
+use Rattle.address.specs.Address.{addressKey, IsAddress, isZero}
+use Rattle.address.proofs.Laws.{key-injective, length-address}
 use Rattle.esi.specs.Reserved.{reserved}
 use Rattle.route.specs.Route.{routeAddress, routeNumber, Fault}
 use Rattle.community.specs.declared.Election.{Election}
@@ -21,10 +22,11 @@ use Rattle.keyed.specs.Keyed.{spliced, dropAt, has, insert, remove}
 use Rattle.keyed.proofs.Keyed as keyed
 use Rattle.rows.specs.Rows.{column, flat, foundIn}
 use Rattle.rows.specs.declared.Found.the-variants.{At, Missing}
-use Rattle.rows.proofs.Places.{present-at}
-use Rattle.layout.specs.Table.{Entry, entryKey, noEntry, entryOf, Table, tableOf, WellFormed, ownerOf}
+use Rattle.rows.proofs.Compared.{Words, words-part}
+use Rattle.rows.proofs.Places.{present-at, at-lt}
+use Rattle.layout.specs.Table.{Entry, entryKey, noEntry, entryOf, AddressRight, Table, tableOf, WellFormed, ownerOf}
 use Rattle.layout.specs.Words.{attributesOf, kindOf, standingOf, entryIn, wordsOf, tableIn, Octets, Valid, Packed}
-use Rattle.layout.proofs.Words.{Narrow, entry-back, table-in, valid-of, narrow-entries}
+use Rattle.layout.proofs.Words.{Narrow, entry-back, address-row, table-in, valid-of, narrow-entries}
 use Rattle.table.specs.Table.{Change, announceNumber, withdrawNumber, freshTable, announced, withdrawn, Told}
 use Rattle.table.specs.Steps.{Stored, admitted}
 use Rattle.table.proofs.Calls as calls
@@ -34,7 +36,7 @@ stored-of : (c x : Change) (b : List ℕ) → x ≡ c → b ≡ wordsOf (x .tabl
 stored-of c x b e q = (ap (λ (y : Change). y .number) e, q ∙ ap (λ (y : Change). wordsOf (y .table)) e)
 
 -- FRESH
-empty-words : (i : List ℕ) → wordsOf (tableOf i []) ≡ replicate 129 0 ++ i
+empty-words : (i : List ℕ) → wordsOf (tableOf i []) ≡ replicate 385 0 ++ i
 unfolding wordsOf column flat
 empty-words i = refl
 
@@ -46,24 +48,24 @@ module _ (i : List ℕ) where
   abbrev Fresh : ℕ → List ℕ → Type 0
   Fresh n b = Told (freshTable i) n 0 b × Valid b
 
-  fresh-told : (n : ℕ) (j : List ℕ) → cond (reserved i) 4 0 ≡ n → ownerOf i ≡ j → Octets j → Fresh n (replicate 129 0 ++ j)
+  fresh-told : (n : ℕ) (j : List ℕ) → cond (reserved i) 4 0 ≡ n → ownerOf i ≡ j → Octets j → Fresh n (replicate 385 0 ++ j)
   unfolding freshTable Every
   fresh-told n j e f o =
       let w : WellFormed (tableOf j []) = subst (λ (k : List ℕ). WellFormed (tableOf k [])) f (calls.fresh-kept i) in
-      ((sym e, refl, ap tableIn (sym (empty-words j)) ∙ table-in (tableOf j []) (w .short) tt ∙ ap (λ (k : List ℕ). tableOf k []) (sym f)), subst Valid (empty-words j) (valid-of (tableOf j []) w tt o))
+      ((sym e, refl, ap tableIn (sym (empty-words j)) ∙ table-in (tableOf j []) (w .short) tt tt ∙ ap (λ (k : List ℕ). tableOf k []) (sym f)), subst Valid (empty-words j) (valid-of (tableOf j []) w tt o))
 
-  pub fresh-reserved : reserved i ≡ true → Fresh 4 (replicate 139 0)
+  pub fresh-reserved : reserved i ≡ true → Fresh 4 (replicate 395 0)
   unfolding ownerOf
   fresh-reserved h = fresh-told 4 (replicate 10 0) (rw h) (rw h) zero-octets
 
-  pub fresh-accepted : (b : List ℕ) → reserved i ≡ false → Octets i → b ≡ take 129 (replicate 139 0) ++ i → Fresh 0 b
+  pub fresh-accepted : (b : List ℕ) → reserved i ≡ false → Octets i → b ≡ take 385 (replicate 395 0) ++ i → Fresh 0 b
   unfolding ownerOf
   fresh-accepted b h o q = subst (Fresh 0) (sym q) (fresh-told 0 i (rw h) (rw h) o)
 
 -- AN ENTRY and its words
-packed-entry : (a w : ℕ) (e : Election) → Packed e w → entryIn (addressRow a) (w ∷ []) ≡ entryOf a e
+packed-entry : (a : List ℕ) (w : ℕ) (e : Election) → Packed e w → entryIn a (w ∷ []) ≡ entryOf a e
 unfolding attributesOf kindOf standingOf
-packed-entry a w e p = ap (λ (v : ℕ). entryIn (addressRow a) (v ∷ [])) (p .0) ∙ entry-back (entryOf a e) (p .1)
+packed-entry a w e p = ap (λ (v : ℕ). entryIn a (v ∷ [])) (p .0) ∙ entry-back (entryOf a e) (p .1)
 
 module _ (b : List ℕ) (h : Valid b) where
   abbrev t : Table
@@ -76,18 +78,23 @@ module _ (b : List ℕ) (h : Valid b) where
   unchanged c n p e = (ap (λ (y : Change). y .number) e, ap (λ (y : Change). y .offset) e, ap (λ (y : Change). y .table) e)
 
   -- AN ENTRY that passed the checks before the last
-  module _ (a w i : ℕ) (e : Election) (p : Packed e w) where
+  module _ (a : List ℕ) (w i : ℕ) (e : Election) (p : Packed e w) where
     -- the address that is found stands there already
-    same-entry : foundIn entryKey (addressKey a) es ≡ At i → entryIn (addressRow (getD es i noEntry .address)) (w ∷ []) ≡ entryOf a e
-    same-entry f =
-        let k = key-injective (getD es i noEntry .address) a (present-at entryKey (addressKey a) es 1 noEntry (h .sound .rising) i f .1) in
-        ap (λ (x : ℕ). entryIn (addressRow x) (w ∷ [])) k ∙ packed-entry a w e p
+    same-address : IsAddress a → Words a → Words b → foundIn entryKey (addressKey a) es ≡ At i → getD es i noEntry .address ≡ a
+    same-address g u v f =
+        let r = getD es i noEntry .address in
+        let l = at-lt entryKey (addressKey a) es 1 noEntry (h .sound .rising) i f in
+        let n : length r ≡ length a = length-address r (every-in AddressRight es i noEntry (h .sound .addresses) l .0) ∙ sym (length-address a g) in
+        key-injective r a n (rw (← address-row b h i l) (words-part 5 (i * 5) b v)) u (present-at entryKey (addressKey a) es 1 noEntry (h .sound .rising) i f .1)
 
-    pub told-at : foundIn entryKey (addressKey a) es ≡ At i → (x : List ℕ) → x ≡ wordsOf (tableOf (t .esi) (set es i (entryIn (addressRow (getD es i noEntry .address)) (w ∷ [])))) → Stored (admitted t (entryOf a e)) 0 x
-    told-at f x q =
-        stored-of (admitted t (entryOf a e)) _ x (calls.admitted-at t (h .sound) (entryOf a e) i f) (q ∙ ap (λ (y : Entry). wordsOf (tableOf (t .esi) (set es i y))) (same-entry f))
+    same-entry : IsAddress a → Words a → Words b → foundIn entryKey (addressKey a) es ≡ At i → entryIn (getD es i noEntry .address) (w ∷ []) ≡ entryOf a e
+    same-entry g u v f = ap (λ (x : List ℕ). entryIn x (w ∷ [])) (same-address g u v f) ∙ packed-entry a w e p
 
-    pub told-new : foundIn entryKey (addressKey a) es ≡ Missing i → length es < 64 → (x : List ℕ) → x ≡ wordsOf (tableOf (t .esi) (spliced es i (entryIn (addressRow a) (w ∷ [])))) → Stored (admitted t (entryOf a e)) 0 x
+    pub told-at : IsAddress a → Words a → Words b → foundIn entryKey (addressKey a) es ≡ At i → (x : List ℕ) → x ≡ wordsOf (tableOf (t .esi) (set es i (entryIn (getD es i noEntry .address) (w ∷ [])))) → Stored (admitted t (entryOf a e)) 0 x
+    told-at g u v f x q =
+        stored-of (admitted t (entryOf a e)) _ x (calls.admitted-at t (h .sound) (entryOf a e) i f) (q ∙ ap (λ (y : Entry). wordsOf (tableOf (t .esi) (set es i y))) (same-entry g u v f))
+
+    pub told-new : foundIn entryKey (addressKey a) es ≡ Missing i → length es < 64 → (x : List ℕ) → x ≡ wordsOf (tableOf (t .esi) (spliced es i (entryIn a (w ∷ [])))) → Stored (admitted t (entryOf a e)) 0 x
     told-new f s x q =
         stored-of (admitted t (entryOf a e)) _ x (calls.admitted-new t (h .sound) (entryOf a e) i f s) (q ∙ ap (λ (y : Entry). wordsOf (tableOf (t .esi) (spliced es i y))) (packed-entry a w e p))
 
@@ -98,7 +105,7 @@ module _ (b : List ℕ) (h : Valid b) where
   stored-valid : (c : Change) (n : ℕ) (x : List ℕ) → Stored c n x → WellFormed (c .table) → Every Narrow (c .table .entries) → c .table .esi ≡ t .esi
       → (tableIn x ≡ c .table) × Valid x
   stored-valid c n x o k m e =
-      (ap tableIn (o .1) ∙ table-in (c .table) (k .short) m, subst Valid (sym (o .1)) (valid-of (c .table) k m (subst Octets (sym e) (h .octets))))
+      (ap tableIn (o .1) ∙ table-in (c .table) (k .short) (k .addresses) m, subst Valid (sym (o .1)) (valid-of (c .table) k m (subst Octets (sym e) (h .octets))))
 
   narrow-change : (n : ℕ) (l : List Entry) → Every Narrow l → Every Narrow (cond (eqb n 0) (tableOf (t .esi) l) t .entries)
   narrow-change n l m = cond-by (λ (x : Table). Every Narrow (x .entries)) (eqb n 0) (λ _. m) (λ _. narrow-entries b h)
@@ -107,7 +114,7 @@ module _ (b : List ℕ) (h : Valid b) where
   same-esi n l = cond-by (λ (x : Table). x .esi ≡ t .esi) (eqb n 0) (λ _. refl) (λ _. refl)
 
   -- WITHDRAWALS
-  module _ (a : ℕ) where
+  module _ (a : List ℕ) where
     abbrev Withdrawn : ℕ → List ℕ → Type 0
     Withdrawn n x = Told (withdrawn t a) n 0 x × Valid x
 
@@ -146,7 +153,7 @@ module _ (b : List ℕ) (h : Valid b) where
     abbrev added : List Entry
     added = insert entryKey (entryOf (routeAddress r) (electionIn c)) es
 
-    pub announced-admitted : (a n : ℕ) (e : Election) (x : List ℕ) → admitted t (entryOf a e) ≡ announced t r c → 0 ≡ admitted t (entryOf a e) .offset → electionIn c ≡ e → Stored (admitted t (entryOf a e)) n x → e .preference < 65536 → Announced n 0 x
+    pub announced-admitted : (a : List ℕ) (n : ℕ) (e : Election) (x : List ℕ) → admitted t (entryOf a e) ≡ announced t r c → 0 ≡ admitted t (entryOf a e) .offset → electionIn c ≡ e → Stored (admitted t (entryOf a e)) n x → e .preference < 65536 → Announced n 0 x
     unfolding announced
     announced-admitted a n e x f z g o m =
         let s : Stored (announced t r c) n x = subst (λ (y : Change). Stored y n x) f o in
@@ -162,7 +169,7 @@ module _ (b : List ℕ) (h : Valid b) where
 pub list-says : (c : List ℕ) (l : ListRead) → l ≡ readList c → l .number ≡ 0 → electionIn c ≡ l .election
 list-says c l q n = sym (ap (λ (y : ListRead). y .election) q ∙ list-accepted c (sym (ap (λ (y : ListRead). y .number) q) ∙ n) .1)
 
-pub length-part : (r : List ℕ) → length r ≡ 25 → length (take 10 (drop 10 r)) ≡ 10
+pub length-part : (r : List ℕ) → 25 ≤ length r → length (take 10 (drop 10 r)) ≡ 10
 length-part r h = length-take-le 10 (drop 10 r) (omega (arith, length-drop 10 r))
 
 pub admitted-offset : (t : Table) (e : Entry) → 0 ≡ admitted t e .offset

@@ -34,7 +34,7 @@ announceNumber i r c present n =
     ∷ []
     )
 
-unfoldable pub withdrawNumber : ℕ → Bool → ℕ
+unfoldable pub withdrawNumber : List ℕ → Bool → ℕ
 withdrawNumber a present =
     firstRefusal (
     (isZero a, addressZero)
@@ -62,7 +62,7 @@ announced t r c =
     t
     (tableOf (t .esi) (insert entryKey (entryOf (routeAddress r) (electionIn c)) (t .entries)))
 
-unfoldable pub withdrawn : Table → ℕ → Change
+unfoldable pub withdrawn : Table → List ℕ → Change
 withdrawn t a =
     changed (withdrawNumber a (has entryKey (addressKey a) (t .entries)))
     0

@@ -14,6 +14,7 @@ use route::Checked;
 use rows::Found;
 ghost use mathlib.Core.Path.{_≡_};
 ghost use Prim.Native.Nat.{_<_};
+ghost use Rattle.address.specs.Address.{addressRow};
 ghost use Rattle.route.specs.Route.{Fault, routeNumber};
 ghost use Rattle.layout.specs.Table.{entryOf};
 ghost use Rattle.layout.specs.Words.{tableIn, Valid};
@@ -57,7 +58,7 @@ pub fn fresh(esi: &[u8]) -> Made
 // The entry stands in the table, in place of an older one of its address; 8 where its address is new and 64 are present.
 fn admit(t: &mut [u32], address: Address, e: Election) -> u8
     requires { ⌜ Valid (now t) ⌝ }
-    ensures answer { λ r. ⌜ Stored (admitted (tableIn (now (t .entry))) (entryOf address e)) r (now (t .exit)) ⌝ }
+    ensures answer { λ r. ⌜ Stored (admitted (tableIn (now (t .entry))) (entryOf (addressRow address) e)) r (now (t .exit)) ⌝ }
     ensures narrow { λ _. ⌜ e .preference < 65536 ⌝ }
 {
     let word = layout::attributes(e);
@@ -119,7 +120,7 @@ pub fn announce(t: &mut [u32], route: &[u8], communities: &[u8]) -> Verdict
 // Withdraws an address: 6 for address zero, 9 for one that is not present. The freed place is zero and can be filled again.
 pub fn withdraw(t: &mut [u32], address: Address) -> u8
     requires { ⌜ Valid (now t) ⌝ }
-    ensures answer { λ r. ⌜ Told (withdrawn (tableIn (now (t .entry))) address) r 0 (now (t .exit)) ⌝ }
+    ensures answer { λ r. ⌜ Told (withdrawn (tableIn (now (t .entry))) (addressRow address)) r 0 (now (t .exit)) ⌝ }
     ensures kept { λ _. ⌜ Valid (now (t .exit)) ⌝ }
 {
     if address::is_zero(address) {

@@ -1,6 +1,7 @@
 -- `announce` meets its contract: the checks in their order, and then what `admit` answers. Assumes nothing.
 use native.Mathlib.Omega.{arith}
-use mathlib.Core.Path.{_≡_, refl, sym, _∙_}
+use Prim.Native.Nat.{_≤_}
+use mathlib.Core.Path.{refl, sym, _∙_}
 use borrow.Author.Tests.{not-true, not-false}
 use denote.Ref.{now}
 use lib.ListN.{length}
@@ -25,14 +26,14 @@ returns c =
 part-same-identifier-end : tie.Need-part-same-identifier-end
 part-same-identifier-end c =
     let r = now (c .before .before .before .before .before .before .before .before .args .route) in
-    let l : length r ≡ 25 = route-length r (told-originator r _ (sym (c .before .before .before .before .check .ensures .0) ∙ c .before .before .checked .given .1) .0) in
+    let l : 25 ≤ length r = route-length r (told-originator r _ (sym (c .before .before .before .before .check .ensures .0) ∙ c .before .before .checked .given .1) .0) in
     omega arith
 
 same-identifier-requires : tie.Need-same-identifier-requires
 same-identifier-requires c κs =
     let start = c .before .before .before .before .before .before .before .before .before in
     let r = now (start .args .route) in
-    let l : length r ≡ 25 = route-length r (told-originator r _ (sym (c .before .before .before .before .before .check .ensures .0) ∙ c .before .before .before .checked .given .1) .0) in
+    let l : 25 ≤ length r = route-length r (told-originator r _ (sym (c .before .before .before .before .before .check .ensures .0) ∙ c .before .before .before .checked .given .1) .0) in
     (start .pre, length-part r l)
 
 returns-2 : tie.Need-returns-2
