@@ -33,7 +33,7 @@ picked-dropAt [] i h = absurd (not-suc-le-zero h)
 picked-dropAt (x ∷ l) zero h = picked-all l
 picked-dropAt (x ∷ l) (suc i) h = ap (x ∷_) (picked-dropAt l i (omega arith))
 
-module _ (es : List Entry) (short : length es ≤ 64) (rising : Rising entryKey 1 es) (a n all : ℕ) (z : n ≡ length es) (q : all ≡ setOf (replicate (min n 64) true)) where
+module _ (es : List Entry) (short : length es ≤ 64) (rising : Rising entryKey 1 es) (a : List ℕ) (n all : ℕ) (z : n ≡ length es) (q : all ≡ setOf (replicate (min n 64) true)) where
   abbrev Others : ℕ → Type 0
   Others s = (s < 2 ^ length es) × (entriesAt es (places s) ≡ others a es)
 
@@ -129,7 +129,7 @@ module _ (os : List Entry) (g p : ℕ) where
       reached c r = sym (sends ∙ rw (sym low ∙ eq-eqb (s % 2) 1 c, sym (ap (reaches g p) high) ∙ r, ← high))
 
 -- THE WHOLE ANSWER
-module _ (l : List Entry) (a g p : ℕ) (d : Bool) where
+module _ (l : List Entry) (a : List ℕ) (g p : ℕ) (d : Bool) where
   pub wrong-algorithm : (g ≡ 2 → ⊥) → (g ≡ 3 → ⊥) → sent 15 0 false ≡ returningOf l a g p d
   unfolding returningOf
   wrong-algorithm m n = rw (ne-eqb g 2 m, ne-eqb g 3 n)

@@ -20,7 +20,7 @@ use Rattle.winner.specs.Winner.{better}
 use Rattle.refusals.specs.Refusals.{algorithmNotUsable, addressZero}
 use Rattle.returning.specs.declared.Sent.{Sent}
 
-abbrev pub others : ℕ → List Entry → List Entry
+abbrev pub others : List ℕ → List Entry → List Entry
 others a l = remove entryKey (addressKey a) l
 
 unfoldable pub allUnder : ℕ → List Entry → Bool
@@ -42,6 +42,6 @@ advertised g p d os =
     cond (not d || (eqb (length os) 0 || not (allUnder g os))) (sent 0 p d) (besideReference g p d (bestOf (better g 0) noEntry os))
 
 -- 15 for an algorithm that is not 2 or 3, then 6 for address zero
-unfoldable pub returningOf : List Entry → ℕ → ℕ → ℕ → Bool → Sent
+unfoldable pub returningOf : List Entry → List ℕ → ℕ → ℕ → Bool → Sent
 returningOf l a g p d =
     cond (not (eqb g 2 || eqb g 3)) (sent algorithmNotUsable 0 false) (cond (isZero a) (sent addressZero 0 false) (advertised g p d (others a l)))

@@ -7,6 +7,7 @@ ghost use mathlib.Core.Path.{_≡_};
 ghost use mathlib.Core.Bool.{false};
 ghost use Prim.Native.Nat.{_<_, _^_};
 ghost use lib.ListN.{length};
+ghost use Rattle.address.specs.Address.{addressRow};
 ghost use Rattle.layout.specs.Words.{tableIn, Valid};
 ghost use Rattle.places.specs.Places.{places};
 ghost use Rattle.winner.specs.Winner.{entriesAt};
@@ -23,7 +24,7 @@ pub struct Sent {
 // The places of the other routes: all places in use but that of the own address.
 fn others(t: &[u32], address: Address) -> u64
     requires { ⌜ Valid (now t) ⌝ }
-    ensures { λ r. ⌜ (r < 2 ^ length (tableIn (now (t .entry)) .entries)) × (entriesAt (tableIn (now (t .entry)) .entries) (places r) ≡ returning.others address (tableIn (now (t .entry)) .entries)) ⌝ }
+    ensures { λ r. ⌜ (r < 2 ^ length (tableIn (now (t .entry)) .entries)) × (entriesAt (tableIn (now (t .entry)) .entries) (places r) ≡ returning.others (addressRow address) (tableIn (now (t .entry)) .entries)) ⌝ }
 {
     let all = places::below(layout::count(t));
     let found = layout::find(t, address);
@@ -110,7 +111,7 @@ fn refusal(number: u8) -> Sent
 // then the reference's preference is sent with DP clear.
 pub fn returning(t: &[u32], address: Address, algorithm: u8, preference: u16, dp: bool) -> Sent
     requires { ⌜ Valid (now t) ⌝ }
-    ensures { λ r. ⌜ r ≡ returningOf (tableIn (now (t .entry)) .entries) address algorithm preference dp ⌝ }
+    ensures { λ r. ⌜ r ≡ returningOf (tableIn (now (t .entry)) .entries) (addressRow address) algorithm preference dp ⌝ }
 {
     if algorithm < 2 {
         return refusal(ALGORITHM_NOT_USABLE);

@@ -2,6 +2,7 @@
 use mathlib.Core.Path.{sym, _∙_}
 use borrow.Author.Needs.{needs}
 use denote.Ref.{now}
+use Rattle.address.specs.Address.{addressRow}
 use Rattle.layout.specs.Words.{tableIn}
 use Rattle.returning.proofs.Laws.{others-missing, others-at}
 use Rattle.returning.proofs.others.Statement.{statement}
@@ -13,7 +14,7 @@ returns c =
     let below = called .before in
     let start = below .before .before .before in
     let h = start .pre .sound in
-    others-missing (tableIn (now (start .args .t)) .entries) (h .short) (h .rising) (start .args .address) _ _ (below .before .count .ensures) (below .below .ensures) _ (sym (called .find .ensures) ∙ c .enum-told .given .1)
+    others-missing (tableIn (now (start .args .t)) .entries) (h .short) (h .rising) (addressRow (start .args .address)) _ _ (below .before .count .ensures) (below .below .ensures) _ (sym (called .find .ensures) ∙ c .enum-told .given .1)
 
 returns-2 : tie.Need-returns-2
 returns-2 c =
@@ -22,7 +23,7 @@ returns-2 c =
     let below = called .before in
     let start = below .before .before .before in
     let h = start .pre .sound in
-    others-at (tableIn (now (start .args .t)) .entries) (h .short) (h .rising) (start .args .address) _ _ (below .before .count .ensures) (below .below .ensures) _ _ (sym (called .find .ensures) ∙ found .found .given .1) (c .without .ensures)
+    others-at (tableIn (now (start .args .t)) .entries) (h .short) (h .rising) (addressRow (start .args .address)) _ _ (below .before .count .ensures) (below .below .ensures) _ _ (sym (called .find .ensures) ∙ found .found .given .1) (c .without .ensures)
 
 pub others-spec : {M : Type 1} → statement M
 others-spec =

@@ -4,6 +4,7 @@ use mathlib.Core.Path.{ap, sym, _∙_}
 use mathlib.Core.List.{List}
 use borrow.Author.Needs.{needs}
 use denote.Ref.{now}
+use Rattle.address.specs.Address.{addressRow}
 use Rattle.layout.specs.Table.{Entry}
 use Rattle.layout.specs.Words.{tableIn}
 use Rattle.returning.specs.Returning.{advertised}
@@ -17,12 +18,12 @@ es s = tableIn (now (s .args .t)) .entries
 returns : tie.Need-returns
 returns c =
     let s = c .before .before .before in
-    c .refusal .ensures ∙ wrong-algorithm (es s) (s .args .address) (s .args .algorithm) (s .args .preference) (s .args .dp) (λ e. omega (arith, c .before .if1 .taken)) (λ e. omega (arith, c .before .if1 .taken))
+    c .refusal .ensures ∙ wrong-algorithm (es s) (addressRow (s .args .address)) (s .args .algorithm) (s .args .preference) (s .args .dp) (λ e. omega (arith, c .before .if1 .taken)) (λ e. omega (arith, c .before .if1 .taken))
 
 returns-2 : tie.Need-returns-2
 returns-2 c =
     let s = c .before .before .before .before in
-    c .refusal2 .ensures ∙ wrong-algorithm (es s) (s .args .address) (s .args .algorithm) (s .args .preference) (s .args .dp) (λ e. omega (arith, c .before .if2 .taken)) (λ e. omega (arith, c .before .if2 .taken))
+    c .refusal2 .ensures ∙ wrong-algorithm (es s) (addressRow (s .args .address)) (s .args .algorithm) (s .args .preference) (s .args .dp) (λ e. omega (arith, c .before .if2 .taken)) (λ e. omega (arith, c .before .if2 .taken))
 
 returns-3 : tie.Need-returns-3
 returns-3 c =
@@ -30,7 +31,7 @@ returns-3 c =
     let second = called .before in
     let first = second .before in
     let s = first .before .before in
-    c .refusal3 .ensures ∙ zero-address (es s) (s .args .address) (s .args .algorithm) (s .args .preference) (s .args .dp) (first .if1 .left) (second .if2 .left) (sym (called .is-zero .ensures) ∙ c .before .if3 .taken)
+    c .refusal3 .ensures ∙ zero-address (es s) (addressRow (s .args .address)) (s .args .algorithm) (s .args .preference) (s .args .dp) (first .if1 .left) (second .if2 .left) (sym (called .is-zero .ensures) ∙ c .before .if3 .taken)
 
 returns-4 : tie.Need-returns-4
 returns-4 c =
@@ -41,7 +42,7 @@ returns-4 c =
     let s = first .before .before in
     c .beside .ensures
     ∙ ap (λ (l : List Entry). advertised (s .args .algorithm) (s .args .preference) (s .args .dp) l) (told .others .ensures .1)
-    ∙ sent-beside (es s) (s .args .address) (s .args .algorithm) (s .args .preference) (s .args .dp) (first .if1 .left) (second .if2 .left) (sym (called .is-zero .ensures) ∙ told .before .if3 .left)
+    ∙ sent-beside (es s) (addressRow (s .args .address)) (s .args .algorithm) (s .args .preference) (s .args .dp) (first .if1 .left) (second .if2 .left) (sym (called .is-zero .ensures) ∙ told .before .if3 .left)
 
 pub returning-spec : {M : Type 1} → statement M
 returning-spec =
