@@ -41,7 +41,7 @@ module _ (i : List ℕ) where
     announced-number r c =
         ap₂ (λ (p : Bool) (n : ℕ). announceNumber i r c p n) (has-state (addressKey (routeAddress r))) (length-map l entryFrom)
 
-    pub withdrawn-number : (a : ℕ) → withdrawn (state l) a .number ≡ numberFor i l (withdraw a)
+    pub withdrawn-number : (a : List ℕ) → withdrawn (state l) a .number ≡ numberFor i l (withdraw a)
     unfolding withdrawn journalNumber callNumber
     withdrawn-number a = ap (withdrawNumber a) (has-state (addressKey a))
 
@@ -143,15 +143,15 @@ pub announce-changes : (t : Table) (r c : List ℕ) (n p : ℕ) (b : List ℕ) �
 unfolding replyTo leaves
 announce-changes t r c n p b o = (ap changeReply (sym (o .0)), sym (o .2))
 
-pub withdraw-changes : (t : Table) (a n p : ℕ) (b : List ℕ) → Told (withdrawn t a) n p b → Changes t (withdraw a) n (tableIn b)
+pub withdraw-changes : (t : Table) (a : List ℕ) (n p : ℕ) (b : List ℕ) → Told (withdrawn t a) n p b → Changes t (withdraw a) n (tableIn b)
 unfolding replyTo leaves
 withdraw-changes t a n p b o = (ap changeReply (sym (o .0)), sym (o .2))
 
 -- what the code answers to an election and to a returning router is the list's reply
-pub elect-replies : (t : Table) (tag : ℕ) (ready : List ℕ) {r : Answer} → r ≡ electOf (t .esi) (t .entries) tag ready → replyTo t (elect tag ready) ≡ electReply r
+pub elect-replies : (t : Table) (tag : ℕ) (ready : List (List ℕ)) {r : Answer} → r ≡ electOf (t .esi) (t .entries) tag ready → replyTo t (elect tag ready) ≡ electReply r
 unfolding replyTo
 elect-replies t tag ready e = ap electReply (sym e)
 
-pub returning-replies : (t : Table) (a alg p : ℕ) (d : Bool) {r : Sent} → r ≡ returningOf (t .entries) a alg p d → replyTo t (returning a alg p d) ≡ returningReply r
+pub returning-replies : (t : Table) (a : List ℕ) (alg p : ℕ) (d : Bool) {r : Sent} → r ≡ returningOf (t .entries) a alg p d → replyTo t (returning a alg p d) ≡ returningReply r
 unfolding replyTo
 returning-replies t a alg p d e = ap returningReply (sym e)

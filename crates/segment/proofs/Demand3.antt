@@ -194,10 +194,10 @@ pub starts : (i : List ℕ) (n p : ℕ) (b : List ℕ) → Told (freshTable i) n
 unfolding after
 starts i n p b o = o .2
 
-pub elect-follows : (t : Table) (tag : ℕ) (ready : List ℕ) {r : Answer} → replyTo t (elect tag ready) ≡ electReply r → Follows t (elect tag ready) (electReply r) t
+pub elect-follows : (t : Table) (tag : ℕ) (ready : List (List ℕ)) {r : Answer} → replyTo t (elect tag ready) ≡ electReply r → Follows t (elect tag ready) (electReply r) t
 unfolding leaves
 elect-follows t tag ready e = follows t (elect tag ready) e refl
 
-pub returning-follows : (t : Table) (a alg p : ℕ) (d : Bool) {r : Sent} → replyTo t (returning a alg p d) ≡ returningReply r → Follows t (returning a alg p d) (returningReply r) t
+pub returning-follows : (t : Table) (a : List ℕ) (alg p : ℕ) (d : Bool) {r : Sent} → replyTo t (returning a alg p d) ≡ returningReply r → Follows t (returning a alg p d) (returningReply r) t
 unfolding leaves
 returning-follows t a alg p d e = follows t (returning a alg p d) e refl

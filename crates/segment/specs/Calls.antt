@@ -21,9 +21,9 @@ use Rattle.returning.specs.Returning.{returningOf}
 
 pub data Call : Type 0 where
   announce : List ℕ → List ℕ → Call
-  withdraw : ℕ → Call
-  elect : ℕ → List ℕ → Call
-  returning : ℕ → ℕ → ℕ → Bool → Call
+  withdraw : List ℕ → Call
+  elect : ℕ → List (List ℕ) → Call
+  returning : List ℕ → ℕ → ℕ → Bool → Call
 
 pub data Reply : Type 0 where
   changeReply : ℕ → Reply

@@ -36,8 +36,8 @@ pub record Demand3 (i : List ℕ) (cs : List Call) : Type 0 where
   -- elections, calls for a returning router and refused calls leave the table as they got it; lists that go on from here have the same said of them.
   -- Of elections and calls for a returning router this holds by definition: what the code guarantees is that these calls get the table by a shared
   -- reference (`&[u32]`), through which nothing is written
-  pub elections : (tag : ℕ) (ready : List ℕ) → leaves (tableAfter i cs) (elect tag ready) ≡ tableAfter i cs
-  pub returnings : (a alg p : ℕ) (d : Bool) → leaves (tableAfter i cs) (returning a alg p d) ≡ tableAfter i cs
+  pub elections : (tag : ℕ) (ready : List (List ℕ)) → leaves (tableAfter i cs) (elect tag ready) ≡ tableAfter i cs
+  pub returnings : (a : List ℕ) (alg p : ℕ) (d : Bool) → leaves (tableAfter i cs) (returning a alg p d) ≡ tableAfter i cs
   pub refusals : (c : Call) → (numberIn (replyTo (tableAfter i cs) c) ≡ 0 → ⊥) → leaves (tableAfter i cs) c ≡ tableAfter i cs
   -- one announcement is held for each address (one page, in document 01): no two that are held have the same originator
   pub single : OnePerAddress (held i cs)
@@ -56,7 +56,7 @@ pub record Demand3 (i : List ℕ) (cs : List Call) : Type 0 where
   pub only : (l : List Entry) → Rising entryKey 0 l → List·Permᴰ l (map entryFrom (held i cs)) → l ≡ entriesFrom (held i cs)
   -- for every tag and every ready list the whole answer of an election, at the end and after what is held was announced alone, is the one for the
   -- journal's identifier and these entries; and so is what a returning router is told
-  pub answer : (tag : ℕ) (ready : List ℕ) → replyTo (tableAfter i cs) (elect tag ready) ≡ electReply (electOf (ownerOf i) (entriesFrom (held i cs)) tag ready)
-  pub answerAgain : (order : List Announcement) → List·Permᴰ order (held i cs) → (tag : ℕ) (ready : List ℕ)
+  pub answer : (tag : ℕ) (ready : List (List ℕ)) → replyTo (tableAfter i cs) (elect tag ready) ≡ electReply (electOf (ownerOf i) (entriesFrom (held i cs)) tag ready)
+  pub answerAgain : (order : List Announcement) → List·Permᴰ order (held i cs) → (tag : ℕ) (ready : List (List ℕ))
       → replyTo (tableAfter i (map again order)) (elect tag ready) ≡ electReply (electOf (ownerOf i) (entriesFrom (held i cs)) tag ready)
-  pub preference : (a alg p : ℕ) (d : Bool) → replyTo (tableAfter i cs) (returning a alg p d) ≡ returningReply (returningOf (entriesFrom (held i cs)) a alg p d)
+  pub preference : (a : List ℕ) (alg p : ℕ) (d : Bool) → replyTo (tableAfter i cs) (returning a alg p d) ≡ returningReply (returningOf (entriesFrom (held i cs)) a alg p d)

@@ -1,5 +1,6 @@
 -- The starred values of document 01 ("Values to hold against the definitions"), as one table: what the definitions that the contracts cite compute, beside what
 -- the document says; before them the check of its CRC-32 ("The election", algorithm 1).
+--   ipv4 a      == the IPv4 address a, as a row
 --   Value       == numbers that a definition computes, and the numbers that they should be
 --   starred     == the table, in the document's order
 --   allRight l  == whether each value of l is what it should be
@@ -7,7 +8,9 @@ use Prim.Native.Nat.{ℕ}
 use mathlib.Core.Bool.{Bool, true, false, _&&_}
 use mathlib.Core.List.{List, [], _∷_}
 use Rattle.lists.specs.Lists.{bit}
+use lib.ListN.{replicate}
 use Rattle.octets.specs.Octets.{sameNumbers}
+use Rattle.address.specs.Address.{addressNumber}
 use Rattle.community.specs.Community.{electionUnder, communityOctets, readCommunity}
 use Rattle.hrw.specs.Crc.{crc32Of}
 use Rattle.hrw.specs.Weight.{weightOf}
@@ -20,20 +23,23 @@ pub record Value : Type 0 where
   pub computed : List ℕ
   pub right : List ℕ
 
+abbrev pub ipv4 : ℕ → List ℕ
+ipv4 a = 4 ∷ a ∷ 0 ∷ 0 ∷ 0 ∷ []
+
 -- the addresses 10.0.0.1, 10.0.0.2, 10.0.0.3 and 138.0.0.1 (8A000001 hex)
-abbrev pub one : ℕ
-one = 0x0A00_0001
+abbrev pub one : List ℕ
+one = ipv4 0x0A00_0001
 
-abbrev pub two : ℕ
-two = 0x0A00_0002
+abbrev pub two : List ℕ
+two = ipv4 0x0A00_0002
 
-abbrev pub three : ℕ
-three = 0x0A00_0003
+abbrev pub three : List ℕ
+three = ipv4 0x0A00_0003
 
-abbrev pub far : ℕ
-far = 0x8A00_0001
+abbrev pub far : List ℕ
+far = ipv4 0x8A00_0001
 
-abbrev pub route : ℕ → ℕ → Bool → ℕ → Entry
+abbrev pub route : List ℕ → ℕ → Bool → ℕ → Entry
 route a g d p = record { address = a; algorithm = g; «ac_df» = false; dp = d; preference = p }
 
 -- an identifier that is not reserved
@@ -41,7 +47,14 @@ abbrev pub esi : List ℕ
 esi = 0 ∷ 1 ∷ 2 ∷ 3 ∷ 4 ∷ 5 ∷ 6 ∷ 7 ∷ 8 ∷ 9 ∷ []
 
 abbrev pub elects : List Entry → ℕ → List ℕ
-elects l tag = electOf esi l tag [] .number ∷ electOf esi l tag [] .address ∷ []
+elects l tag = electOf esi l tag [] .number ∷ electOf esi l tag [] .family ∷ electOf esi l tag [] .address
+
+-- the number, the family and the sixteen octets that tell 10.0.0.x, and those of the refusal n
+abbrev pub names : ℕ → List ℕ
+names x = 0 ∷ 4 ∷ 10 ∷ 0 ∷ 0 ∷ x ∷ replicate 12 0
+
+abbrev pub refuses : ℕ → List ℕ
+refuses n = n ∷ replicate 17 0
 
 abbrev pub threeRoutes : List Entry
 threeRoutes = route one 0 false 0 ∷ route two 0 false 0 ∷ route three 0 false 0 ∷ []
@@ -74,18 +87,18 @@ starred =
     ∷ value (weightOf 0 0 ∷ []) (1406932606 ∷ [])
     ∷ value (weightOf 0 12345 ∷ []) (12345 ∷ [])
     -- 0A000001 and 8A000001 hex tie at D 0; 10.0.0.1 wins
-    ∷ value (weightOf one 0 ∷ []) (weightOf far 0 ∷ [])
-    ∷ value (elected 1 7 0 (route one 1 false 0 ∷ route far 1 false 0 ∷ []) .address ∷ []) (one ∷ [])
+    ∷ value (weightOf (addressNumber one) 0 ∷ []) (weightOf (addressNumber far) 0 ∷ [])
+    ∷ value (elected 1 7 0 (route one 1 false 0 ∷ route far 1 false 0 ∷ []) .address) one
     -- 10.0.0.1 to .3, algorithm 0: tag 7 gives .2; tag 4,294,967,294 gives .3; tags 0 and 4,294,967,295 are refused
-    ∷ value (elects threeRoutes 7) (0 ∷ two ∷ [])
-    ∷ value (elects threeRoutes 4294967294) (0 ∷ three ∷ [])
-    ∷ value (elects threeRoutes 0) (10 ∷ 0 ∷ [])
-    ∷ value (elects threeRoutes 4294967295) (10 ∷ 0 ∷ [])
+    ∷ value (elects threeRoutes 7) (names 2)
+    ∷ value (elects threeRoutes 4294967294) (names 3)
+    ∷ value (elects threeRoutes 0) (refuses 10)
+    ∷ value (elects threeRoutes 4294967295) (refuses 10)
     -- (500, DP 0) at .1 and (500, DP 1) at .2: .2, under 2 and under 3. Both DP 0: .1
-    ∷ value (elects (pair 2 true) 7) (0 ∷ two ∷ [])
-    ∷ value (elects (pair 3 true) 7) (0 ∷ two ∷ [])
-    ∷ value (elects (pair 2 false) 7) (0 ∷ one ∷ [])
-    ∷ value (elects (pair 3 false) 7) (0 ∷ one ∷ [])
+    ∷ value (elects (pair 2 true) 7) (names 2)
+    ∷ value (elects (pair 3 true) 7) (names 2)
+    ∷ value (elects (pair 2 false) 7) (names 1)
+    ∷ value (elects (pair 3 false) 7) (names 1)
     -- Algorithm 2, DP, AC-DF, 500: 06 06 02 C0 00 00 01 F4. 06 06 E2 C0 01 FF 01 F4 reads alike
     ∷ value (communityOctets (electionUnder 2 true true 500)) (0x06 ∷ 0x06 ∷ 0x02 ∷ 0xC0 ∷ 0x00 ∷ 0x00 ∷ 0x01 ∷ 0xF4 ∷ [])
     ∷ value (says (0x06 ∷ 0x06 ∷ 0x02 ∷ 0xC0 ∷ 0x00 ∷ 0x00 ∷ 0x01 ∷ 0xF4 ∷ [])) (2 ∷ 1 ∷ 1 ∷ 500 ∷ [])

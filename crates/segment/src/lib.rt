@@ -1,4 +1,4 @@
-// What users link: the calls of one segment. A table is 139 words, which the fresh call makes and the others are lent.
+// What users link: the calls of one segment. A table is 395 words, which the fresh call makes and the others are lent.
 // The fresh call promises demand 3 of every list of calls; each call promises that it is one more call of the list.
 use address::Address;
 use election::Answer;
@@ -9,6 +9,8 @@ ghost use mathlib.Core.Path.{_≡_};
 ghost use mathlib.Core.List.{List, []};
 ghost use mathlib.Core.Bool.{true};
 ghost use lib.Count.{ones};
+ghost use Rattle.address.specs.Address.{addressRow};
+ghost use Rattle.ready.specs.Ready.{readyIn};
 ghost use Rattle.route.specs.Route.{Fault, routeNumber};
 ghost use Rattle.layout.specs.Words.{tableIn, Valid};
 ghost use Rattle.table.specs.Table.{freshTable, announced, withdrawn, Told};
@@ -48,24 +50,24 @@ pub fn announce(t: &mut [u32], route: &[u8], communities: &[u8]) -> Verdict
 // Withdraws an address: 6 for address zero, 9 for one that is not present. The freed place is zero and can be filled again.
 pub fn withdraw(t: &mut [u32], address: Address) -> u8
     requires { ⌜ Valid (now t) ⌝ }
-    ensures answer { λ r. ⌜ Told (withdrawn (tableIn (now (t .entry))) address) r 0 (now (t .exit)) ⌝ }
+    ensures answer { λ r. ⌜ Told (withdrawn (tableIn (now (t .entry))) (addressRow address)) r 0 (now (t .exit)) ⌝ }
     ensures kept { λ _. ⌜ Valid (now (t .exit)) ⌝ }
-    ensures call { λ r. ⌜ calls.Changes (tableIn (now (t .entry))) (calls.withdraw address) r (tableIn (now (t .exit))) ⌝ }
-    ensures follows { λ r. ⌜ Follows (tableIn (now (t .entry))) (calls.withdraw address) (calls.changeReply r) (tableIn (now (t .exit))) ⌝ }
+    ensures call { λ r. ⌜ calls.Changes (tableIn (now (t .entry))) (calls.withdraw (addressRow address)) r (tableIn (now (t .exit))) ⌝ }
+    ensures follows { λ r. ⌜ Follows (tableIn (now (t .entry))) (calls.withdraw (addressRow address)) (calls.changeReply r) (tableIn (now (t .exit))) ⌝ }
 {
     table::withdraw(t, address)
 }
 
-// Elects the Designated Forwarder for a tag: 10 for tag 0 or 4,294,967,295, 11 for a ready list over 64, 12 where no route is eligible.
+// Elects the Designated Forwarder for a tag: 10 for tag 0 or 4,294,967,295, 11 for a ready list over 64 rows of five words, 12 where no route is eligible.
 // An address that is named is that of a candidate; under algorithms 1 to 3 no candidate is better, and it is the only such.
-pub fn elect(t: &[u32], tag: u32, ready: &[Address]) -> Answer
+pub fn elect(t: &[u32], tag: u32, ready: &[u32]) -> Answer
     requires { ⌜ Valid (now t) ⌝ }
-    ensures answer { λ r. ⌜ r ≡ electOf (tableIn (now (t .entry)) .esi) (tableIn (now (t .entry)) .entries) tag (now (ready .entry)) ⌝ }
+    ensures answer { λ r. ⌜ r ≡ electOf (tableIn (now (t .entry)) .esi) (tableIn (now (t .entry)) .entries) tag (readyIn (now (ready .entry))) ⌝ }
     ensures counted { λ r. ⌜ r .n ≡ ones (r .candidates) ⌝ }
-    ensures none_named { λ r. ⌜ NoneNamed (tableIn (now (t .entry)) .entries) tag (now (ready .entry)) r ⌝ }
-    ensures forwarder { λ r. ⌜ (r .number ≡ 0 → Forwarder (tableIn (now (t .entry)) .esi) (tableIn (now (t .entry)) .entries) tag (now (ready .entry)) r) ⌝ }
-    ensures call { λ r. ⌜ calls.replyTo (tableIn (now (t .entry))) (calls.elect tag (now (ready .entry))) ≡ calls.electReply r ⌝ }
-    ensures follows { λ r. ⌜ Follows (tableIn (now (t .entry))) (calls.elect tag (now (ready .entry))) (calls.electReply r) (tableIn (now (t .entry))) ⌝ }
+    ensures none_named { λ r. ⌜ NoneNamed (tableIn (now (t .entry)) .entries) tag (readyIn (now (ready .entry))) r ⌝ }
+    ensures forwarder { λ r. ⌜ (r .number ≡ 0 → Forwarder (tableIn (now (t .entry)) .esi) (tableIn (now (t .entry)) .entries) tag (readyIn (now (ready .entry))) r) ⌝ }
+    ensures call { λ r. ⌜ calls.replyTo (tableIn (now (t .entry))) (calls.elect tag (readyIn (now (ready .entry)))) ≡ calls.electReply r ⌝ }
+    ensures follows { λ r. ⌜ Follows (tableIn (now (t .entry))) (calls.elect tag (readyIn (now (ready .entry)))) (calls.electReply r) (tableIn (now (t .entry))) ⌝ }
 {
     election::elect(t, tag, ready)
 }
@@ -73,9 +75,9 @@ pub fn elect(t: &[u32], tag: u32, ready: &[Address]) -> Answer
 // What a returning router advertises: 15 for an own algorithm that is not 2 or 3, 6 for address zero.
 pub fn returning(t: &[u32], address: Address, algorithm: u8, preference: u16, dp: bool) -> Sent
     requires { ⌜ Valid (now t) ⌝ }
-    ensures answer { λ r. ⌜ r ≡ returningOf (tableIn (now (t .entry)) .entries) address algorithm preference dp ⌝ }
-    ensures call { λ r. ⌜ calls.replyTo (tableIn (now (t .entry))) (calls.returning address algorithm preference dp) ≡ calls.returningReply r ⌝ }
-    ensures follows { λ r. ⌜ Follows (tableIn (now (t .entry))) (calls.returning address algorithm preference dp) (calls.returningReply r) (tableIn (now (t .entry))) ⌝ }
+    ensures answer { λ r. ⌜ r ≡ returningOf (tableIn (now (t .entry)) .entries) (addressRow address) algorithm preference dp ⌝ }
+    ensures call { λ r. ⌜ calls.replyTo (tableIn (now (t .entry))) (calls.returning (addressRow address) algorithm preference dp) ≡ calls.returningReply r ⌝ }
+    ensures follows { λ r. ⌜ Follows (tableIn (now (t .entry))) (calls.returning (addressRow address) algorithm preference dp) (calls.returningReply r) (tableIn (now (t .entry))) ⌝ }
 {
     returning::returning(t, address, algorithm, preference, dp)
 }

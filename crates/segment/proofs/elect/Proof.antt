@@ -1,5 +1,6 @@
 -- `elect` meets its contract: the election's own promises, and that it is the list's reply. Assumes nothing.
 use denote.Ref.{now}
+use Rattle.ready.specs.Ready.{readyIn}
 use Rattle.layout.specs.Words.{tableIn}
 use Rattle.segment.proofs.Calls.{elect-replies}
 use Rattle.segment.proofs.Demand3.{elect-follows}
@@ -12,8 +13,8 @@ returns c =
     let told = c .elect .ensures in
     let a = c .before .before .before .args in
     let t = tableIn (a .t .now) in
-    let call = elect-replies t (a .tag) (now (a .ready)) (told .0) in
-    (told .0, (told .1 .0, (told .1 .1 .0, (told .1 .1 .1, (call, elect-follows t (a .tag) (now (a .ready)) call)))))
+    let call = elect-replies t (a .tag) (readyIn (now (a .ready))) (told .0) in
+    (told .0, (told .1 .0, (told .1 .1 .0, (told .1 .1 .1, (call, elect-follows t (a .tag) (readyIn (now (a .ready))) call)))))
 
 pub elect-spec : {M : Type 1} → statement M
 elect-spec = tie.close (tie.spec (λ c κs. search needs) returns)
