@@ -1,13 +1,21 @@
 -- The answers of a segment's calls in the structs that C reads.
 --   exportedAnswer a   == the answer of an election, field by field
---   sentOf s     == what a returning router sends, field by field
+--   handedIn v a b c d == the address of four words, IPv6 where v says so
+--   sentOf s           == what a returning router sends, field by field
+use Prim.Native.Nat.{ℕ}
+use mathlib.Core.Bool.{Bool, cond}
+use Rattle.address.specs.declared.Address.{Address}
+use Rattle.address.specs.declared.Family.the-variants.{V4, V6}
 use Rattle.election.specs.declared.Answer as election
 use Rattle.returning.specs.declared.Sent as returning
 use Rattle.exports.specs.declared.Answer.{Answer}
 use Rattle.exports.specs.declared.Sent.{Sent}
 
 abbrev pub exportedAnswer : election.Answer → Answer
-exportedAnswer a = record { number = a .number; address = a .address; algorithm = a .algorithm; n = a .n; candidates = a .candidates }
+exportedAnswer a = record { number = a .number; family = a .family; address = a .address; algorithm = a .algorithm; n = a .n; candidates = a .candidates }
 
 abbrev pub sentOf : returning.Sent → Sent
 sentOf s = record { number = s .number; preference = s .preference; dp = s .dp }
+
+abbrev pub handedIn : Bool → ℕ → ℕ → ℕ → ℕ → Address
+handedIn v a b c d = record { family = cond v V6 V4; w0 = a; w1 = b; w2 = c; w3 = d }

@@ -1,13 +1,17 @@
 // One call to a function, for programs in Rust: benchmarks/ counts and times these, and its tests compare their answers with independent ones.
 // They are not for a daemon: nothing tests that the words lent are those of a table (`Valid`), which benchmarks/src/proved.rs sees to by a type.
+use address::Address;
+use address::Family;
 use table::WORDS;
 ghost use mathlib.Core.Path.{_≡_};
+ghost use Rattle.address.specs.Address.{addressRow};
+ghost use Rattle.ready.specs.Ready.{readyIn};
 ghost use Rattle.table.specs.Table.{freshTable, announced, withdrawn, Told};
 ghost use Rattle.layout.specs.Words.{tableIn, Valid};
 ghost use Rattle.hrw.specs.Weight.{digestOf};
 ghost use Rattle.election.specs.Election.{electOf};
 ghost use Rattle.returning.specs.Returning.{returningOf};
-ghost use Rattle.exports.specs.Exports.{exportedAnswer, sentOf};
+ghost use Rattle.exports.specs.Exports.{exportedAnswer, handedIn, sentOf};
 
 // The answers of the calls, laid out as C lays them out.
 #[repr(C)]
@@ -19,7 +23,8 @@ pub struct Verdict {
 #[repr(C)]
 pub struct Answer {
     pub number: u8,
-    pub address: u32,
+    pub family: u8,
+    pub address: [u8; 16],
     pub algorithm: u8,
     pub n: u32,
     pub candidates: u64,
@@ -30,6 +35,28 @@ pub struct Sent {
     pub number: u8,
     pub preference: u16,
     pub dp: bool,
+}
+
+// The address of four words, IPv6 or not.
+fn handed_in(v6: bool, w0: u32, w1: u32, w2: u32, w3: u32) -> Address
+    ensures { λ r. ⌜ r ≡ handedIn v6 w0 w1 w2 w3 ⌝ }
+{
+    if v6 {
+        return Address {
+            family: Family::V6,
+            w0: w0,
+            w1: w1,
+            w2: w2,
+            w3: w3,
+        };
+    }
+    Address {
+        family: Family::V4,
+        w0: w0,
+        w1: w1,
+        w2: w2,
+        w3: w3,
+    }
 }
 
 // `segment::fresh`, its table put into the words lent.
@@ -60,11 +87,19 @@ pub extern "C" fn segment_announce(t: &mut [u32], route: &[u8], communities: &[u
 
 // `segment::withdraw`.
 #[no_mangle]
-pub extern "C" fn segment_withdraw(t: &mut [u32], address: u32) -> u8
+pub extern "C" fn segment_withdraw(
+    t: &mut [u32],
+    v6: bool,
+    w0: u32,
+    w1: u32,
+    w2: u32,
+    w3: u32,
+) -> u8
     requires { ⌜ Valid (now t) ⌝ }
-    ensures answer { λ r. ⌜ Told (withdrawn (tableIn (now (t .entry))) address) r 0 (now (t .exit)) ⌝ }
+    ensures answer { λ r. ⌜ Told (withdrawn (tableIn (now (t .entry))) (addressRow (handedIn v6 w0 w1 w2 w3))) r 0 (now (t .exit)) ⌝ }
     ensures kept { λ _. ⌜ Valid (now (t .exit)) ⌝ }
 {
+    let address = handed_in(v6, w0, w1, w2, w3);
     segment::withdraw(t, address)
 }
 
@@ -72,12 +107,14 @@ pub extern "C" fn segment_withdraw(t: &mut [u32], address: u32) -> u8
 #[no_mangle]
 pub extern "C" fn segment_elect(t: &[u32], tag: u32, ready: &[u32]) -> Answer
     requires { ⌜ Valid (now t) ⌝ }
-    ensures { λ r. ⌜ r ≡ exportedAnswer (electOf (tableIn (now (t .entry)) .esi) (tableIn (now (t .entry)) .entries) tag (now (ready .entry))) ⌝ }
+    ensures { λ r. ⌜ r ≡ exportedAnswer (electOf (tableIn (now (t .entry)) .esi) (tableIn (now (t .entry)) .entries) tag (readyIn (now (ready .entry)))) ⌝ }
 {
     let a = segment::elect(t, tag, ready);
+    let octets = a.address;
     Answer {
         number: a.number,
-        address: a.address,
+        family: a.family,
+        address: octets,
         algorithm: a.algorithm,
         n: a.n,
         candidates: a.candidates,
@@ -88,14 +125,19 @@ pub extern "C" fn segment_elect(t: &[u32], tag: u32, ready: &[u32]) -> Answer
 #[no_mangle]
 pub extern "C" fn segment_returning(
     t: &[u32],
-    address: u32,
+    v6: bool,
+    w0: u32,
+    w1: u32,
+    w2: u32,
+    w3: u32,
     algorithm: u8,
     preference: u16,
     dp: bool,
 ) -> Sent
     requires { ⌜ Valid (now t) ⌝ }
-    ensures { λ r. ⌜ r ≡ sentOf (returningOf (tableIn (now (t .entry)) .entries) address algorithm preference dp) ⌝ }
+    ensures { λ r. ⌜ r ≡ sentOf (returningOf (tableIn (now (t .entry)) .entries) (addressRow (handedIn v6 w0 w1 w2 w3)) algorithm preference dp) ⌝ }
 {
+    let address = handed_in(v6, w0, w1, w2, w3);
     let s = segment::returning(t, address, algorithm, preference, dp);
     Sent {
         number: s.number,

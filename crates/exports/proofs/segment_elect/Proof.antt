@@ -6,7 +6,7 @@ use Rattle.exports.proofs.segment_elect.Statement.{statement}
 use Rattle.exports.proofs.segment_elect.Tie as tie
 
 returns : tie.Need-returns
-returns c = ap exportedAnswer (c .elect .ensures .0)
+returns c = ap exportedAnswer (c .before .elect .ensures .0)
 
 pub segment-elect-spec : {M : Type 1} → statement M
 segment-elect-spec = tie.close (tie.spec (λ c κs. search needs) returns)
