@@ -8,7 +8,8 @@ use mathlib.Core.Bool.{Bool, true, false, cond, _&&_, and-eq-true-iff, and-false
 use mathlib.Core.Logic.{⊎-elim}
 use lib.Dec.{leb, ltb, eqb}
 use borrow.Author.Tests.{le-leb, lt-leb, lt-ltb, le-ltb, eqb-true}
-use Rattle.esi.specs.Text.{between, digitValue, digitOf, lowerCharacter}
+use Rattle.octets.specs.Octets.{hexDigit}
+use Rattle.esi.specs.Text.{between, digitValue, lowerCharacter}
 
 -- ---- the number of a digit
 
@@ -38,16 +39,6 @@ pub value-none : (c : ℕ) → between 48 57 c ≡ false → between 97 102 c �
 unfolding digitValue
 value-none c d l u = rw (d, l, u)
 
--- ---- the digit of a number
-
-pub digit-decimal : (n : ℕ) → n < 10 → digitOf n ≡ 48 + n
-unfolding digitOf
-digit-decimal n h = rw (lt-ltb n 10 h)
-
-pub digit-letter : (n : ℕ) → 10 ≤ n → digitOf n ≡ 87 + n
-unfolding digitOf
-digit-letter n h = rw (le-ltb n 10 h)
-
 -- ---- the one from the other, by a test of every number below 16 and of every octet
 
 allBelow : (ℕ → Bool) → ℕ → Bool
@@ -61,12 +52,12 @@ all-below f (suc n) h k l =
     let p = and-eq-true-iff (f n) (allBelow f n) .0 h in
     ⊎-elim (λ e. rw e (p .0)) (λ l′. all-below f n (p .1) k l′) (eq-or-lt-of-le (le-of-suc-le-suc l))
 
-pub value-digit : (n : ℕ) → n < 16 → digitValue (digitOf n) ≡ n
-unfolding digitValue digitOf allBelow
-value-digit n h = eqb-true (digitValue (digitOf n)) n (all-below (λ k. eqb (digitValue (digitOf k)) k) 16 refl n h)
+pub value-digit : (n : ℕ) → n < 16 → digitValue (hexDigit n) ≡ n
+unfolding digitValue hexDigit allBelow
+value-digit n h = eqb-true (digitValue (hexDigit n)) n (all-below (λ k. eqb (digitValue (hexDigit k)) k) 16 refl n h)
 
-pub digit-value : (c : ℕ) → c < 256 → digitValue c < 16 → digitOf (digitValue c) ≡ lowerCharacter c
-unfolding digitValue digitOf lowerCharacter allBelow
+pub digit-value : (c : ℕ) → c < 256 → digitValue c < 16 → hexDigit (digitValue c) ≡ lowerCharacter c
+unfolding digitValue hexDigit lowerCharacter allBelow
 digit-value c h v =
-    let t = all-below (λ k. cond (ltb (digitValue k) 16) (eqb (digitOf (digitValue k)) (lowerCharacter k)) true) 256 refl c h in
-    eqb-true (digitOf (digitValue c)) (lowerCharacter c) (rw (lt-ltb (digitValue c) 16 v) at t)
+    let t = all-below (λ k. cond (ltb (digitValue k) 16) (eqb (hexDigit (digitValue k)) (lowerCharacter k)) true) 256 refl c h in
+    eqb-true (hexDigit (digitValue c)) (lowerCharacter c) (rw (lt-ltb (digitValue c) 16 v) at t)

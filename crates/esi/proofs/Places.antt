@@ -16,7 +16,8 @@ use Rattle.lists.specs.Lists.{tabulate}
 use Rattle.lists.proofs.Bools.{cond-by}
 use Rattle.lists.proofs.Lists.{length-tabulate, getD-tabulate}
 use Rattle.octets.proofs.Laws.{Octets, octets-nil, octets-cons}
-use Rattle.esi.specs.Text.{digitValue, digitOf, rightAt, wrongFrom, firstWrong, rightIn, FirstFault, octetAt, esiIn, textAt, textOf, lowerCharacter, lowerCase}
+use Rattle.octets.specs.Octets.{hexDigit}
+use Rattle.esi.specs.Text.{digitValue, rightAt, wrongFrom, firstWrong, rightIn, FirstFault, octetAt, esiIn, textAt, textOf, lowerCharacter, lowerCase}
 use Rattle.esi.proofs.Digits.{value-digit, digit-value}
 
 -- ---- a list by its places
@@ -40,11 +41,11 @@ pub text-colon : (s : List ℕ) (i : ℕ) → i % 3 ≡ 2 → textAt s i ≡ 58
 unfolding textAt
 text-colon s i e = rw (eq-eqb (i % 3) 2 e)
 
-pub text-high : (s : List ℕ) (i : ℕ) → i % 3 ≡ 0 → textAt s i ≡ digitOf (getD s (i / 3) 0 / 16)
+pub text-high : (s : List ℕ) (i : ℕ) → i % 3 ≡ 0 → textAt s i ≡ hexDigit (getD s (i / 3) 0 / 16)
 unfolding textAt
 text-high s i e = rw (ne-eqb (i % 3) 2 (omega arith), eq-eqb (i % 3) 0 e)
 
-pub text-low : (s : List ℕ) (i : ℕ) → i % 3 ≡ 1 → textAt s i ≡ digitOf (getD s (i / 3) 0 % 16)
+pub text-low : (s : List ℕ) (i : ℕ) → i % 3 ≡ 1 → textAt s i ≡ hexDigit (getD s (i / 3) 0 % 16)
 unfolding textAt
 text-low s i e = rw (ne-eqb (i % 3) 2 (omega arith), ne-eqb (i % 3) 0 (omega arith))
 
@@ -201,7 +202,7 @@ module _ (t : List ℕ) (r : Right t) where
     third : i / 3 < 10
     third = omega arith
 
-    digit-at : i % 3 < 2 → digitOf (digitValue (getD t i 0)) ≡ lowerCharacter (getD t i 0)
+    digit-at : i % 3 < 2 → hexDigit (digitValue (getD t i 0)) ≡ lowerCharacter (getD t i 0)
     digit-at k = digit-value (getD t i 0) (o i) (value-at i h k)
 
     high-at : i % 3 ≡ 0 → textAt (esiIn t) i ≡ lowerCharacter (getD t i 0)
@@ -247,8 +248,8 @@ text-esi t n o r =
 
 -- ---- the text of an identifier is right, and says it
 
-digit-right : (i n : ℕ) → i % 3 < 2 → n < 16 → rightAt i (digitOf n) ≡ true
-digit-right i n k h = right-digit i (digitOf n) k ∙ lt-ltb (digitValue (digitOf n)) 16 (rw (value-digit n h) h)
+digit-right : (i n : ℕ) → i % 3 < 2 → n < 16 → rightAt i (hexDigit n) ≡ true
+digit-right i n k h = right-digit i (hexDigit n) k ∙ lt-ltb (digitValue (hexDigit n)) 16 (rw (value-digit n h) h)
 
 module _ (s : List ℕ) (o : Octets s) where
   pub text-right : (i : ℕ) → rightAt i (textAt s i) ≡ true

@@ -13,7 +13,6 @@
 --   accepted s          == the answer with the identifier s
 --   refused n p         == the refusal n, with the offset p and ten zeros
 --   readText t          == the answer for the text t; with 13 its offset is that of the first fault (document 02, M-103), else it is 0
---   digitOf n           == the digit of the number n, in lower case
 --   textAt s i          == the character at offset i of the text of the identifier s
 --   textOf s            == the text of the identifier s
 --   lowerCharacter c    == c in lower case if it is a digit A-F, else c
@@ -28,6 +27,7 @@ use lib.ListN.{length, getD, take, drop, replicate}
 use lib.Dec.{leb, ltb, eqb}
 use Rattle.lists.specs.Checks.{firstRefusal}
 use Rattle.lists.specs.Lists.{tabulate}
+use Rattle.octets.specs.Octets.{hexDigit}
 use Rattle.refusals.specs.Refusals.{esiText, esiReserved, bufferShort}
 use Rattle.esi.specs.declared.TextRead.{TextRead}
 use Rattle.esi.specs.Reserved.{reserved}
@@ -74,11 +74,8 @@ refused n p = record { number = n; offset = p; esi = replicate 10 0 }
 unfoldable pub readText : List ℕ → TextRead
 readText t = cond (not (wellFormed t)) (refused esiText (firstWrong t)) (cond (reserved (esiIn t)) (refused esiReserved 0) (accepted (esiIn t)))
 
-unfoldable pub digitOf : ℕ → ℕ
-digitOf n = cond (ltb n 10) (48 + n) (87 + n)
-
 unfoldable pub textAt : List ℕ → ℕ → ℕ
-textAt s i = cond (eqb (i % 3) 2) 58 (digitOf (cond (eqb (i % 3) 0) (getD s (i / 3) 0 / 16) (getD s (i / 3) 0 % 16)))
+textAt s i = cond (eqb (i % 3) 2) 58 (hexDigit (cond (eqb (i % 3) 0) (getD s (i / 3) 0 / 16) (getD s (i / 3) 0 % 16)))
 
 unfoldable pub textOf : List ℕ → List ℕ
 textOf s = tabulate 29 (textAt s)

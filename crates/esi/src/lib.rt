@@ -10,7 +10,6 @@ ghost use Rattle.esi.specs.Reserved.{reserved};
 ghost use Rattle.esi.specs.Text.{
   FirstFault,
   accepted,
-  digitOf,
   digitValue,
   esiIn,
   firstWrong,
@@ -154,17 +153,6 @@ pub fn read_text(text: &[u8]) -> TextRead
     }
 }
 
-// The digit of a number below 16, in lower case.
-fn digit_of(n: u8) -> u8
-    requires { ⌜ n < 16 ⌝ }
-    ensures { λ r. ⌜ r ≡ digitOf n ⌝ }
-{
-    if n < 10 {
-        return 48 + n;
-    }
-    87 + n
-}
-
 // The character at offset i of the text of an identifier.
 fn text_at(esi: &[u8], i: usize) -> u8
     requires { ⌜ (length (now esi) ≡ 10) × (i < 29) ⌝ }
@@ -175,9 +163,9 @@ fn text_at(esi: &[u8], i: usize) -> u8
     }
     let octet = esi[i / 3];
     if i % 3 == 0 {
-        return digit_of(octet / 16);
+        return octets::hex_digit(octet / 16);
     }
-    digit_of(octet % 16)
+    octets::hex_digit(octet % 16)
 }
 
 // Writes the text of an identifier, in lower case, into the first 29 characters of a buffer, and answers 0. A reserved identifier is

@@ -1,17 +1,17 @@
 -- Laws of `specs/Lines.antt`: the decimal digits of a number, the dotted form of an address, and pieces put one after the other.
 -- Assumes nothing.
 use Prim.Native.Nat.{ℕ, zero, suc, _+_, _-_, _*_, _/_, _%_, _^_, _≤_, _<_}
-use native.Mathlib.Nat.{not-suc-le-zero, pow-suc}
+use native.Mathlib.Nat.{not-suc-le-zero, le-of-suc-le-suc, pow-suc}
 use native.Mathlib.Omega.{arith}
 use mathlib.Core.Path.{_≡_, refl, ap, _∙_, sym, subst}
 use mathlib.Core.Bool.{Bool, true, false, cond}
 use mathlib.Core.List.{List, [], _∷_, _++_}
-use lib.ListN.{length, take, length-append}
+use lib.ListN.{length, getD, take, length-append}
 use lib.Dec.{leb, ltb}
 use borrow.Author.Tests.{lt-ltb, le-ltb, le-leb, lt-leb, leb-true, ltb-true, ltb-false}
-use Rattle.octets.specs.Octets.{stored, octetsOf}
-use Rattle.octets.proofs.Laws.{Octets, stored-not, length-stored, stored-stored, take-stored, length-octets, octets-octets}
-use Rattle.lines.specs.Lines.{digit, digits, decimal, joined, dotted, positionAfter, Put}
+use Rattle.octets.specs.Octets.{hexDigit, stored}
+use Rattle.octets.proofs.Laws.{Octets, stored-not, length-stored, stored-stored, take-stored, octets-nil, octets-cons}
+use Rattle.lines.specs.Lines.{digit, digits, decimal, dotted, hex, positionAfter, Put}
 
 -- ---- decimal digits
 
@@ -71,16 +71,32 @@ decimal-three n h l =
 
 -- ---- the dotted form of an address
 
-length-joined : (s : List ℕ) → Octets s → length (joined s) ≤ 4 * length s - 1
-unfolding joined
-length-joined [] o = omega arith
-length-joined (x ∷ []) o = omega (arith, length-decimal-octet x (o 0))
-length-joined (x ∷ y ∷ s) o =
-    rw length-append (omega (arith, length-decimal-octet x (o 0), length-joined (y ∷ s) (λ i. o (suc i))))
-
-pub length-dotted : (a : ℕ) → length (dotted a) ≤ 15
+length-dots : (s : List ℕ) → Octets s → length (dotted s) ≤ 4 * length s - 1
 unfolding dotted
-length-dotted a = omega (arith, length-joined (octetsOf 4 a) (octets-octets 4 a), length-octets 4 a)
+length-dots [] o = omega arith
+length-dots (x ∷ []) o = omega (arith, length-decimal-octet x (o 0))
+length-dots (x ∷ y ∷ s) o =
+    rw length-append (omega (arith, length-decimal-octet x (o 0), length-dots (y ∷ s) (λ i. o (suc i))))
+
+pub length-dotted : (a b c d : ℕ) → a < 256 → b < 256 → c < 256 → d < 256 → length (dotted (a ∷ b ∷ c ∷ d ∷ [])) ≤ 15
+length-dotted a b c d p q r s = length-dots (a ∷ b ∷ c ∷ d ∷ []) (octets-cons a (b ∷ c ∷ d ∷ []) p (octets-cons b (c ∷ d ∷ []) q (octets-cons c (d ∷ []) r (octets-cons d [] s octets-nil))))
+
+-- ---- octets in hexadecimal
+
+pub length-hex : (s : List ℕ) → length (hex s) ≡ 2 * length s
+unfolding hex
+length-hex [] = refl
+length-hex (x ∷ s) = omega (arith, length-hex s)
+
+-- the digits of the first i octets
+pub hex-next : (s : List ℕ) (i : ℕ) → i < length s → take (2 * (i + 1)) (hex s) ≡ take (2 * i) (hex s) ++ (hexDigit (getD s i 0 / 16) ∷ hexDigit (getD s i 0) ∷ [])
+unfolding hex
+hex-next [] i h = absurd (not-suc-le-zero h)
+hex-next (x ∷ s) zero h = refl
+hex-next (x ∷ s) (suc i) h =
+    let n : 2 * (suc i + 1) ≡ suc (suc (2 * (i + 1))) = omega arith in
+    let m : 2 * suc i ≡ suc (suc (2 * i)) = omega arith in
+    rw (n, m) (ap (λ (l : List ℕ). hexDigit (x / 16) ∷ hexDigit x ∷ l) (hex-next s i (le-of-suc-le-suc h)))
 
 -- ---- pieces put into a buffer
 

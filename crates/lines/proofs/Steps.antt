@@ -1,17 +1,17 @@
 -- Laws for the steps of the code: one octet stored, a number below 256, digits spelled from the end of a text, an address by its octets.
 -- Assumes nothing.
-use Prim.Native.Nat.{ℕ, zero, suc, _+_, _-_, _/_, _%_, _^_, _≤_, _<_}
+use Prim.Native.Nat.{ℕ, zero, suc, _+_, _-_, _*_, _/_, _%_, _^_, _≤_, _<_}
 use native.Mathlib.Nat.{not-suc-le-zero, pow-suc, le-refl}
 use native.Mathlib.Numerals.{add-one}
 use native.Mathlib.Omega.{arith}
-use mathlib.Core.Path.{_≡_, refl, ap, _∙_, sym}
+use mathlib.Core.Path.{_≡_, refl, ap, ap₂, _∙_, sym}
 use mathlib.Core.List.{List, [], _∷_, _++_, append-assoc}
 use lib.ListN.{length, getD, set, take, drop, length-set}
-use lib.Seq.{set-split, append-snoc, drop-cons, getD-set-same, drop-set-lt}
-use Rattle.octets.specs.Octets.{octetsOf}
+use lib.Seq.{take-suc-set, set-split, append-snoc, drop-cons, getD-set-same, drop-set-lt}
+use Rattle.octets.specs.Octets.{hexDigit}
 use Rattle.octets.proofs.Laws.{stored-fits}
-use Rattle.lines.specs.Lines.{digit, decimal, joined, dotted, Put}
-use Rattle.lines.proofs.Laws.{decimal-small, decimal-more, decimal-two, put-made}
+use Rattle.lines.specs.Lines.{digit, decimal, dotted, hex, Put}
+use Rattle.lines.proofs.Laws.{decimal-small, decimal-more, decimal-two, put-made, hex-next}
 
 -- ---- one octet
 
@@ -56,9 +56,21 @@ spell-room (suc (suc i)) n h k =
     let e : suc (suc i) - 1 ≡ suc i = omega arith in
     rw e (omega arith, omega (arith, pow-suc 10 (suc i)))
 
+-- ---- two digits more of octets in hexadecimal
+
+pub hex-turn : (t s : List ℕ) (i x y : ℕ) → i < length s → 2 * i + 2 ≤ length t → take (2 * i) t ≡ take (2 * i) (hex s) → x ≡ hexDigit (getD s i 0 / 16) → y ≡ hexDigit (getD s i 0)
+    → take (2 * (i + 1)) (set (set t (2 * i) x) (2 * i + 1) y) ≡ take (2 * (i + 1)) (hex s)
+hex-turn t s i x y h l q a b =
+    let n : 2 * (i + 1) ≡ suc (suc (2 * i)) = omega arith in
+    let m : 2 * i + 1 ≡ suc (2 * i) = omega arith in
+    ap₂ (λ (j k : ℕ). take j (set (set t (2 * i) x) k y)) n m
+    ∙ take-suc-set (set t (2 * i) x) (suc (2 * i)) y (simp length-set (omega arith))
+    ∙ ap (λ (p : List ℕ). p ++ y ∷ []) (take-suc-set t (2 * i) x (omega arith))
+    ∙ append-assoc (take (2 * i) t) (x ∷ []) (y ∷ [])
+    ∙ rw (q, a, b) (sym (hex-next s i h))
+
 -- ---- an address, by its four octets
 
-pub dotted-parts : (a : ℕ) (l : List ℕ) → l ≡ octetsOf 4 a
-    → decimal (getD l 0 0) ++ (46 ∷ decimal (getD l 1 0) ++ (46 ∷ decimal (getD l 2 0) ++ 46 ∷ decimal (getD l 3 0))) ≡ dotted a
-unfolding dotted joined octetsOf
-dotted-parts a l e = rw e
+pub dotted-parts : (a b c d : ℕ) → decimal a ++ (46 ∷ decimal b ++ (46 ∷ decimal c ++ 46 ∷ decimal d)) ≡ dotted (a ∷ b ∷ c ∷ d ∷ [])
+unfolding dotted
+dotted-parts a b c d = refl

@@ -1,11 +1,11 @@
 // The pieces of an answer line (document 01, "The bench program"), put into a lent buffer one after the other: an octet, a run of octets,
-// a number in decimal, an address in dotted form. One rule for all: a piece that fits from the position on is stored there, and the answer is
+// a number in decimal, an address of either family. One rule for all: a piece that fits from the position on is stored there, and the answer is
 // the position after it; of a piece that does not fit nothing is stored, and the answer is the position itself.
 ghost use mathlib.Core.Path.{_≡_};
 ghost use mathlib.Core.List.{[], _∷_};
 ghost use Prim.Native.Nat.{_≤_};
 ghost use lib.ListN.{length, drop};
-ghost use Rattle.lines.specs.Lines.{decimal, dotted, Put};
+ghost use Rattle.lines.specs.Lines.{decimal, dotted, hex, Put};
 
 // The character `0`; the other digits follow it.
 const ZERO: u8 = b'0';
@@ -93,27 +93,41 @@ pub fn put_decimal(buf: &mut [u8], at: usize, n: u64) -> usize
     put_run(buf, at, &text[first..])
 }
 
-// Spells the dotted form of an address at the front of a text that has room for it, and answers its length.
-fn spell_dotted(text: &mut [u8], a: u32) -> usize
+// Spells the dotted form of an IPv4 address at the front of a text that has room for it, and answers its length.
+fn spell_dotted(text: &mut [u8], a: u8, b: u8, c: u8, d: u8) -> usize
     requires { ⌜ 15 ≤ length (now text) ⌝ }
-    ensures { λ r. ⌜ Put (now (text .entry)) 0 (dotted a) r (now (text .exit)) ⌝ }
+    ensures { λ r. ⌜ Put (now (text .entry)) 0 (dotted (a ∷ b ∷ c ∷ d ∷ [])) r (now (text .exit)) ⌝ }
 {
-    let parts = octets::of_u32(a);
-    let mut end = put_small(text, 0, parts[0]);
+    let mut end = put_small(text, 0, a);
     end = put_octet(text, end, DOT);
-    end = put_small(text, end, parts[1]);
+    end = put_small(text, end, b);
     end = put_octet(text, end, DOT);
-    end = put_small(text, end, parts[2]);
+    end = put_small(text, end, c);
     end = put_octet(text, end, DOT);
-    put_small(text, end, parts[3])
+    put_small(text, end, d)
 }
 
-// Puts the dotted form of an address, its four octets in decimal, high octet first, with dots between, from position `at` on and answers the
-// position after it; where it does not fit, the buffer stays as it is and the answer is `at`.
-pub fn put_dotted(buf: &mut [u8], at: usize, a: u32) -> usize
-    ensures { λ r. ⌜ Put (now (buf .entry)) at (dotted a) r (now (buf .exit)) ⌝ }
+// Puts the dotted form of an IPv4 address, its four octets in decimal with dots between, from position `at` on and answers the position after it; where it does
+// not fit, the buffer stays as it is and the answer is `at`.
+pub fn put_dotted(buf: &mut [u8], at: usize, a: u8, b: u8, c: u8, d: u8) -> usize
+    ensures { λ r. ⌜ Put (now (buf .entry)) at (dotted (a ∷ b ∷ c ∷ d ∷ [])) r (now (buf .exit)) ⌝ }
 {
     let mut text = [0u8; LONGEST_DOTTED];
-    let end = spell_dotted(&mut text, a);
+    let end = spell_dotted(&mut text, a, b, c, d);
     put_run(buf, at, &text[..end])
+}
+
+// Puts sixteen octets in hexadecimal, two digits each, from position `at` on and answers the position after them; where they do not fit, the buffer stays as it
+// is and the answer is `at`.
+pub fn put_hex(buf: &mut [u8], at: usize, s: [u8; 16]) -> usize
+    ensures { λ r. ⌜ Put (now (buf .entry)) at (hex s) r (now (buf .exit)) ⌝ }
+{
+    let mut text = [0u8; 32];
+    let mut i = 0;
+    while i < 16 {
+        text[2 * i] = octets::hex_digit(s[i] / 16);
+        text[2 * i + 1] = octets::hex_digit(s[i]);
+        i += 1;
+    }
+    put_run(buf, at, &text)
 }

@@ -3,12 +3,13 @@
 --   octetsOf n v      == the low n octets of the number v
 --   sameNumbers a b    == whether a and b are the same numbers, one by one
 --   allAre x s        == whether every octet of s is x
+--   hexDigit n        == the hexadecimal digit of the low four bits of n, in lower case
 --   stored d at s     == d with s in the places from `at` on; d itself where s does not fit
 use Prim.Native.Nat.{ℕ, zero, suc, _+_, _*_, _/_, _%_, _^_}
 use mathlib.Core.Bool.{Bool, true, false, cond, _&&_}
 use mathlib.Core.List.{List, [], _∷_, _++_}
 use lib.ListN.{length, take, drop}
-use lib.Dec.{leb, eqb}
+use lib.Dec.{leb, ltb, eqb}
 use Rattle.lists.specs.Lists.{all}
 
 unfoldable pub numberOf : List ℕ → ℕ
@@ -27,6 +28,10 @@ sameNumbers (x ∷ a) (y ∷ b) = eqb x y && sameNumbers a b
 
 unfoldable pub allAre : ℕ → List ℕ → Bool
 allAre x s = all (λ y. eqb y x) s
+
+-- 48 is the character 0, and 97 the character a
+unfoldable pub hexDigit : ℕ → ℕ
+hexDigit n = cond (ltb (n % 16) 10) (48 + n % 16) (87 + n % 16)
 
 unfoldable pub stored : List ℕ → ℕ → List ℕ → List ℕ
 stored d at s = cond (leb (at + length s) (length d)) (take at d ++ s ++ drop (at + length s) d) d

@@ -2,7 +2,7 @@
 ghost use mathlib.Core.Path.{_≡_};
 ghost use mathlib.Core.List.{[], _∷_};
 ghost use lib.ListN.{length};
-ghost use Rattle.octets.specs.Octets.{numberOf, octetsOf, allAre, stored};
+ghost use Rattle.octets.specs.Octets.{numberOf, octetsOf, allAre, hexDigit, stored};
 
 // The number that two octets make.
 pub fn u16_of(a: u8, b: u8) -> u16
@@ -35,6 +35,17 @@ pub fn of_u32(v: u32) -> [u8; 4]
         (v / 256 % 256) as u8,
         (v % 256) as u8,
     ]
+}
+
+// The hexadecimal digit of the low four bits of a number, in lower case.
+pub fn hex_digit(n: u8) -> u8
+    ensures { λ r. ⌜ r ≡ hexDigit n ⌝ }
+{
+    let d = n % 16;
+    if d < 10 {
+        return 48 + d;
+    }
+    87 + d
 }
 
 // Whether every octet is x.

@@ -1,5 +1,4 @@
 -- `text_at` meets its contract: an octet's high digit, its low digit, and a colon. Assumes nothing.
-use Prim.Native.Nat.{_/_}
 use native.Mathlib.Omega.{arith}
 use mathlib.Core.Path.{sym, _∙_}
 use borrow.Author.Needs.{needs}
@@ -10,18 +9,15 @@ use Rattle.esi.proofs.text_at.Tie as tie
 returns : tie.Need-returns
 returns c = sym (text-colon (c .before .before .args .esi .now) (c .before .before .args .i) (c .if1 .taken))
 
-digit-of-requires : tie.Need-digit-of-requires
-digit-of-requires c κs = omega (arith, c .before .shared-slice-known2 .given (c .before .before .before .before .args .i / 3))
-
 returns-2 : tie.Need-returns-2
 returns-2 c =
     let at = c .before .before .before .before .before .args in
-    c .digit-of .ensures ∙ sym (text-high (at .esi .now) (at .i) (omega arith))
+    c .hex-digit .ensures ∙ sym (text-high (at .esi .now) (at .i) (omega arith))
 
 returns-3 : tie.Need-returns-3
 returns-3 c =
     let at = c .before .before .before .before .before .args in
-    c .digit-of2 .ensures ∙ sym (text-low (at .esi .now) (at .i) (omega arith))
+    c .hex-digit2 .ensures ∙ sym (text-low (at .esi .now) (at .i) (omega arith))
 
 pub text-at-spec : {M : Type 1} → statement M
 text-at-spec =
@@ -29,7 +25,7 @@ text-at-spec =
     (tie.spec
     returns
     (λ c. search needs)
-    digit-of-requires
+    (λ c κs. search needs)
     returns-2
     (λ c κs. search needs)
     returns-3)

@@ -15,8 +15,8 @@ returns c =
     let p3 = p4 .before .before .before .before in
     let p2 = p3 .before .before .before .before in
     let p1 = p2 .before .before .before .before in
-    let o = p1 .before .before in
-    let a = o .before .before .args in
+    let o = p1 .before .before .before in
+    let a = o .args in
     let pieces =
     put-next (p1 .put-small .ensures)
     (put-next (p2 .put-octet .ensures)
@@ -25,23 +25,19 @@ returns c =
     (put-next (p5 .put-small3 .ensures)
     (put-next (p6 .put-octet3 .ensures) (λ _. p7 .put-small4 .ensures))))))
     in
-    put-all pieces (dotted-parts (a .a) (o .of-u32 .result) (o .of-u32 .ensures)) (omega (arith, length-dotted (a .a), o .before .before .pre))
+    put-all pieces (dotted-parts (a .a) (a .b) (a .c) (a .d))
+    (omega (arith, length-dotted (a .a) (a .b) (a .c) (a .d) (o .fits .a .fits) (o .fits .b .fits) (o .fits .c .fits) (o .fits .d .fits), o .pre))
 
 pub spell-dotted-spec : {M : Type 1} → statement M
 spell-dotted-spec =
     tie.close
     (tie.spec
     (λ c κs. search needs)
-    (λ c. search needs)
     (λ c κs. search needs)
     (λ c κs. search needs)
-    (λ c. search needs)
     (λ c κs. search needs)
     (λ c κs. search needs)
-    (λ c. search needs)
     (λ c κs. search needs)
-    (λ c κs. search needs)
-    (λ c. search needs)
     (λ c κs. search needs)
     (λ c. search needs)
     returns)
