@@ -3,24 +3,27 @@
 use Prim.Native.Nat.{ℕ, _+_, _^_, _≤_, _<_}
 use native.Mathlib.Nat.{add-zero}
 use native.Mathlib.Omega.{arith}
-use mathlib.Core.Path.{_≡_, _∙_, sym, subst}
+use mathlib.Core.Path.{_≡_, ap, _∙_, sym, subst}
 use mathlib.Core.Bool.{true, false}
 use mathlib.Core.List.{List, [], _∷_, _++_, append-nil}
-use lib.ListN.{length, length-append, take-append-drop}
+use lib.ListN.{length, take, length-append, take-append-drop}
+use lib.Seq.{length-take-le}
+use lib.Dec.{eqb}
 use borrow.Author.Tests.{eq-eqb, ne-eqb, le-leb, lt-leb}
 use Rattle.election.specs.declared.Answer.{Answer}
-use Rattle.octets.proofs.Laws.{stored-fits}
-use Rattle.lines.specs.Lines.{decimal, dotted, Put}
-use Rattle.lines.proofs.Laws.{put-position, put-all, length-decimal, length-decimal-octet, length-dotted}
-use Rattle.answer_lines.specs.AnswerLines.{line, offsetLine, hasOffset, readLine, electedLine, queryLine, Written}
+use Rattle.lists.proofs.Bools.{cond-by}
+use Rattle.octets.proofs.Laws.{Octets, octets-take, elements, take-elements, stored-fits}
+use Rattle.lines.specs.Lines.{decimal, dotted, hex, Put}
+use Rattle.lines.proofs.Laws.{put-position, put-all, length-decimal, length-decimal-octet, length-dots, length-hex}
+use Rattle.answer_lines.specs.AnswerLines.{line, offsetLine, hasOffset, readLine, addressText, electedLine, queryLine, Written}
 
 -- ---- lines
 
-pub length-line : (c n : ℕ) → n < 256 → length (line c n) ≤ 40
+pub length-line : (c n : ℕ) → n < 256 → length (line c n) ≤ 48
 unfolding line
 length-line c n h = omega (arith, length-append (decimal n) (10 ∷ []), length-decimal-octet n h)
 
-pub length-offset : (c n p : ℕ) → n < 256 → p < 2 ^ 64 → length (offsetLine c n p) ≤ 40
+pub length-offset : (c n p : ℕ) → n < 256 → p < 2 ^ 64 → length (offsetLine c n p) ≤ 48
 unfolding offsetLine
 length-offset c n p h l =
     omega (
@@ -62,16 +65,32 @@ pub read-none : (c n p : ℕ) → hasOffset n ≡ false → line c n ≡ readLin
 unfolding readLine
 read-none c n p h = rw h
 
-pub length-elected : (a n : ℕ) → n < 2 ^ 32 → length (electedLine a n) ≤ 40
+length-text : (f : ℕ) (a : List ℕ) → length a ≡ 16 → Octets a → length (addressText f a) ≤ 32
+unfolding addressText
+length-text f a n o =
+    cond-by (λ (s : List ℕ). length s ≤ 32) (eqb f 6)
+    (λ _. omega (arith, length-hex a))
+    (λ _. omega (arith, length-dots (take 4 a) (octets-take 4 a o), length-take-le 4 a (omega arith)))
+
+pub length-elected : (f : ℕ) (a : List ℕ) (n : ℕ) → length a ≡ 16 → Octets a → n < 2 ^ 32 → length (electedLine f a n) ≤ 48
 unfolding electedLine
-length-elected a n h =
-    omega (arith, length-append (dotted a) (32 ∷ decimal n ++ (10 ∷ [])), length-append (decimal n) (10 ∷ []), length-dotted a, length-decimal 9 n (omega arith))
+length-elected f a n l o h =
+    omega (arith, length-append (addressText f a) (32 ∷ decimal n ++ (10 ∷ [])), length-append (decimal n) (10 ∷ []), length-text f a l o, length-decimal 9 n (omega arith))
+
+-- which form an address has
+pub text-six : (f : ℕ) (a : List ℕ) → f ≡ 6 → hex a ≡ addressText f a
+unfolding addressText
+text-six f a e = rw (eq-eqb f 6 e)
+
+pub text-four : (f : ℕ) (a : List ℕ) → (f ≡ 6 → ⊥) → 4 ≤ length a → dotted (elements 4 0 a) ≡ addressText f a
+unfolding addressText
+text-four f a n l = rw (ne-eqb f 6 n) (ap dotted (sym (take-elements 4 0 a l)))
 
 pub query-refused : (r : Answer) → (r .number ≡ 0 → ⊥) → line 113 (r .number) ≡ queryLine r
 unfolding queryLine
 query-refused r h = rw (ne-eqb (r .number) 0 h)
 
-pub query-accepted : (r : Answer) → r .number ≡ 0 → electedLine (r .address) (r .n) ≡ queryLine r
+pub query-accepted : (r : Answer) → r .number ≡ 0 → electedLine (r .family) (r .address) (r .n) ≡ queryLine r
 unfolding queryLine
 query-accepted r h = rw (eq-eqb (r .number) 0 h)
 

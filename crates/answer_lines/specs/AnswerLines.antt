@@ -5,7 +5,8 @@
 --   hasOffset n        == whether an offset is printed after the number n: after 1 to 4, 6 and 13 (document 02, M-103)
 --   readLine c n p     == the line of the letter c for what was read: the number n, and the offset p where one is printed
 --   badLine            == the line `x 16`
---   electedLine a n    == the line of an accepted query
+--   addressText f a    == how an address of the family f with the sixteen octets a is printed: IPv4 dotted, IPv6 as 32 hexadecimal digits (document 02, M-105)
+--   electedLine f a n  == the line of an accepted query
 --   queryLine r        == the line of the election's answer r
 --   Written d at s r e == the octets s, for which there was room, are put at position `at` of the buffer that held d, which then holds e; r is the
 --                         position after them
@@ -13,11 +14,11 @@ use Prim.Native.Nat.{ℕ, _+_, _≤_}
 use mathlib.Core.Path.{_≡_}
 use mathlib.Core.Bool.{Bool, cond, _&&_, _||_}
 use mathlib.Core.List.{List, [], _∷_, _++_}
-use lib.ListN.{length}
+use lib.ListN.{length, take}
 use lib.Dec.{leb, eqb}
 use Rattle.octets.specs.Octets.{stored}
 use Rattle.election.specs.declared.Answer.{Answer}
-use Rattle.lines.specs.Lines.{decimal, dotted}
+use Rattle.lines.specs.Lines.{decimal, dotted, hex}
 
 unfoldable pub line : ℕ → ℕ → List ℕ
 line c n = (c ∷ []) ++ ((32 ∷ []) ++ (decimal n ++ (10 ∷ [])))
@@ -35,11 +36,14 @@ abbrev pub badLine : List ℕ
 badLine = 120 ∷ 32 ∷ 49 ∷ 54 ∷ 10 ∷ []
 
 -- an accepted query adds the address and N
-unfoldable pub electedLine : ℕ → ℕ → List ℕ
-electedLine a n = (113 ∷ 32 ∷ 48 ∷ 32 ∷ []) ++ (dotted a ++ ((32 ∷ []) ++ (decimal n ++ (10 ∷ []))))
+unfoldable pub addressText : ℕ → List ℕ → List ℕ
+addressText f a = cond (eqb f 6) (hex a) (dotted (take 4 a))
+
+unfoldable pub electedLine : ℕ → List ℕ → ℕ → List ℕ
+electedLine f a n = (113 ∷ 32 ∷ 48 ∷ 32 ∷ []) ++ (addressText f a ++ ((32 ∷ []) ++ (decimal n ++ (10 ∷ []))))
 
 unfoldable pub queryLine : Answer → List ℕ
-queryLine r = cond (eqb (r .number) 0) (electedLine (r .address) (r .n)) (line 113 (r .number))
+queryLine r = cond (eqb (r .number) 0) (electedLine (r .family) (r .address) (r .n)) (line 113 (r .number))
 
 pub record Written (d : List ℕ) (at : ℕ) (s : List ℕ) (r : ℕ) (e : List ℕ) : Type 0 where
   pub fits : at + length s ≤ length d

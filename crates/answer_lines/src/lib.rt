@@ -1,4 +1,4 @@
-// The answer lines of the bench program (document 01, "The bench program"): one for each record, put into a lent buffer. A line has at most 40 octets.
+// The answer lines of the bench program (document 01, "The bench program"): one for each record, put into a lent buffer. A line has at most 48 octets.
 use election::Answer;
 ghost use mathlib.Core.Path.{_≡_};
 ghost use Prim.Native.Nat.{_+_, _≤_};
@@ -10,17 +10,18 @@ ghost use Rattle.answer_lines.specs.AnswerLines.{
   offsetLine,
   hasOffset,
   readLine,
+  addressText,
   electedLine,
   queryLine,
   Written,
 };
 
 // The room that any line finds enough.
-pub const LINE_ROOM: usize = 40;
+pub const LINE_ROOM: usize = 48;
 
 // Puts the line of a letter and a number.
 pub fn put_line(out: &mut [u8], at: usize, letter: u8, number: u8) -> usize
-    requires { ⌜ at + 40 ≤ length (now out) ⌝ }
+    requires { ⌜ at + 48 ≤ length (now out) ⌝ }
     ensures { λ r. ⌜ Written (now (out .entry)) at (line letter number) r (now (out .exit)) ⌝ }
 {
     let mut end = lines::put_octet(out, at, letter);
@@ -31,7 +32,7 @@ pub fn put_line(out: &mut [u8], at: usize, letter: u8, number: u8) -> usize
 
 // Puts the line of a letter, a number and an offset.
 fn put_offset(out: &mut [u8], at: usize, letter: u8, number: u8, offset: usize) -> usize
-    requires { ⌜ at + 40 ≤ length (now out) ⌝ }
+    requires { ⌜ at + 48 ≤ length (now out) ⌝ }
     ensures { λ r. ⌜ Written (now (out .entry)) at (offsetLine letter number offset) r (now (out .exit)) ⌝ }
 {
     let mut end = lines::put_octet(out, at, letter);
@@ -56,7 +57,7 @@ fn has_offset(number: u8) -> bool
 
 // Puts the line for what was read: its number, and its offset where one is printed.
 pub fn put_read(out: &mut [u8], at: usize, letter: u8, number: u8, offset: usize) -> usize
-    requires { ⌜ at + 40 ≤ length (now out) ⌝ }
+    requires { ⌜ at + 48 ≤ length (now out) ⌝ }
     ensures { λ r. ⌜ Written (now (out .entry)) at (readLine letter number offset) r (now (out .exit)) ⌝ }
 {
     if has_offset(number) {
@@ -65,13 +66,23 @@ pub fn put_read(out: &mut [u8], at: usize, letter: u8, number: u8, offset: usize
     put_line(out, at, letter, number)
 }
 
+// Puts an address: IPv4 dotted, IPv6 as 32 hexadecimal digits.
+fn put_address(out: &mut [u8], at: usize, family: u8, a: [u8; 16]) -> usize
+    ensures { λ r. ⌜ Put (now (out .entry)) at (addressText family a) r (now (out .exit)) ⌝ }
+{
+    if family == 6 {
+        return lines::put_hex(out, at, a);
+    }
+    lines::put_dotted(out, at, a[0], a[1], a[2], a[3])
+}
+
 // Puts the line of an accepted query.
-fn put_elected(out: &mut [u8], at: usize, address: u32, n: u32) -> usize
-    requires { ⌜ at + 40 ≤ length (now out) ⌝ }
-    ensures { λ r. ⌜ Written (now (out .entry)) at (electedLine address n) r (now (out .exit)) ⌝ }
+fn put_elected(out: &mut [u8], at: usize, family: u8, address: [u8; 16], n: u32) -> usize
+    requires { ⌜ at + 48 ≤ length (now out) ⌝ }
+    ensures { λ r. ⌜ Written (now (out .entry)) at (electedLine family address n) r (now (out .exit)) ⌝ }
 {
     let mut end = lines::put_run(out, at, b"q 0 ");
-    end = lines::put_dotted(out, end, address);
+    end = put_address(out, end, family, address);
     end = lines::put_octet(out, end, b' ');
     end = lines::put_decimal(out, end, n as u64);
     lines::put_octet(out, end, b'\n')
@@ -79,16 +90,17 @@ fn put_elected(out: &mut [u8], at: usize, address: u32, n: u32) -> usize
 
 // Puts the line of an election's answer.
 pub fn put_answer(out: &mut [u8], at: usize, r: Answer) -> usize
-    requires { ⌜ at + 40 ≤ length (now out) ⌝ }
+    requires { ⌜ at + 48 ≤ length (now out) ⌝ }
     ensures { λ e. ⌜ Written (now (out .entry)) at (queryLine r) e (now (out .exit)) ⌝ }
 {
     let number = r.number;
     if number != 0 {
         return put_line(out, at, b'q', number);
     }
+    let family = r.family;
     let address = r.address;
     let n = r.n;
-    put_elected(out, at, address, n)
+    put_elected(out, at, family, address, n)
 }
 
 // Puts the line of a bad record, `x 16`, from position `at` on and answers the position after it; where it does not fit, the buffer stays as it is

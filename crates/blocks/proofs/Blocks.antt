@@ -61,9 +61,9 @@ module _ (b : Bench) (s : List ℕ) (n : ℕ) where
   unfolding stopped
   stopped-ended h = rw h
 
-  pub stopped-room : n < 40 → stopped b s n ≡ true
+  pub stopped-room : n < 48 → stopped b s n ≡ true
   unfolding stopped
-  stopped-room h = rw (lt-ltb n 40 h) (or-true (hasEnded b))
+  stopped-room h = rw (lt-ltb n 48 h) (or-true (hasEnded b))
 
   stopped-part : isPart (front s) ≡ true → stopped b s n ≡ true
   unfolding stopped
@@ -216,13 +216,13 @@ module _ (h : Phase) (n : ℕ) where
   unfolding nextIn
   next-done e = rw e
 
-  pub next-again : isEnd h ≡ false → n < 40 → Again ≡ nextIn h n
+  pub next-again : isEnd h ≡ false → n < 48 → Again ≡ nextIn h n
   unfolding nextIn
-  next-again e l = rw (e, lt-ltb n 40 l)
+  next-again e l = rw (e, lt-ltb n 48 l)
 
-  pub next-read : isEnd h ≡ false → 40 ≤ n → Read ≡ nextIn h n
+  pub next-read : isEnd h ≡ false → 48 ≤ n → Read ≡ nextIn h n
   unfolding nextIn
-  next-read e l = rw (e, le-ltb n 40 l)
+  next-read e l = rw (e, le-ltb n 48 l)
 
 -- what may still become a record is shorter than one
 part-short : (s : List ℕ) (f : Front) → Octets s → front s ≡ f → isPart f ≡ true → length s < 259
@@ -237,13 +237,13 @@ why-next : (q : Bench) (s : List ℕ) (n : ℕ) → Octets s → stopped q s n �
 unfolding stopped nextIn
 why-next q s n o = by-end (hasEnded q) refl
   where
-    by-room : (t : Bool) → ltb n 40 ≡ t → hasEnded q ≡ false → (t || isPart (front s)) ≡ true → Why q s n (cond t Again Read)
-    by-room true h e p = full refl e (ltb-true n 40 h)
-    by-room false h e p = part refl e (ltb-false n 40 h) p (part-short s (front s) o refl p)
+    by-room : (t : Bool) → ltb n 48 ≡ t → hasEnded q ≡ false → (t || isPart (front s)) ≡ true → Why q s n (cond t Again Read)
+    by-room true h e p = full refl e (ltb-true n 48 h)
+    by-room false h e p = part refl e (ltb-false n 48 h) p (part-short s (front s) o refl p)
 
-    by-end : (t : Bool) → hasEnded q ≡ t → (t || (ltb n 40 || isPart (front s))) ≡ true → Why q s n (cond t Done (cond (ltb n 40) Again Read))
+    by-end : (t : Bool) → hasEnded q ≡ t → (t || (ltb n 48 || isPart (front s))) ≡ true → Why q s n (cond t Done (cond (ltb n 48) Again Read))
     by-end true h p = ended refl h
-    by-end false h p = by-room (ltb n 40) refl h p
+    by-end false h p = by-room (ltb n 48) refl h p
 
 pub block-taken : {b : Bench} {s d : List ℕ} {p : Progress} {q : Bench} {e : List ℕ} (n m : ℕ) {k : ℕ} {u : List ℕ} {x : Next} → Octets s → m ≡ min n (length s)
     → Ran b (take m s) d p q e → Stopped (take m s) d p q ≡ true → k ≡ length (kept s (p .used) m) → u ≡ stored s 0 (kept s (p .used) m)

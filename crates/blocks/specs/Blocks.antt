@@ -1,7 +1,7 @@
 -- What blocks of input, taken record by record, leave and print (document 01, "The bench program").
 --   isPart f                == whether the front f is what may still become a record: nothing, or a cut record
 --   stopped b s n           == whether no record is taken from the state b with the octets s left and room for n octets: the run has ended, the room is
---                              less than 40, or s is no whole record yet
+--                              less than 48, or s is no whole record yet
 --   Advanced b s i d w p q e
 --                           == from the state b, at position i of the input s, one record or none was taken: its line is written at position w of the
 --                              buffer that held d, which then holds e, and whatever follows s, the run is that line and then the run from the
@@ -41,7 +41,7 @@ isPart cut = true
 isPart (whole k p r) = false
 
 unfoldable pub stopped : Bench → List ℕ → ℕ → Bool
-stopped b s n = hasEnded b || (ltb n 40 || isPart (front s))
+stopped b s n = hasEnded b || (ltb n 48 || isPart (front s))
 
 pub record Advanced (b : Bench) (s : List ℕ) (i : ℕ) (d : List ℕ) (w : ℕ) (p : Progress) (q : Bench) (e : List ℕ) : Type 0 where
   pub line : List ℕ
@@ -68,13 +68,13 @@ unfoldable pub lastOf : ℕ → List ℕ → List ℕ
 lastOf k s = drop (length s - k) s
 
 unfoldable pub nextIn : Phase → ℕ → Next
-nextIn h n = cond (isEnd h) Done (cond (ltb n 40) Again Read)
+nextIn h n = cond (isEnd h) Done (cond (ltb n 48) Again Read)
 
--- no line is longer than 40 octets, and no record than 259: what may still become one is shorter
+-- no line is longer than 48 octets, and no record than 259: what may still become one is shorter
 pub data Why (q : Bench) (s : List ℕ) (n : ℕ) (x : Next) : Type 0 where
   ended : x ≡ Done → hasEnded q ≡ true → Why q s n x
-  full : x ≡ Again → hasEnded q ≡ false → n < 40 → Why q s n x
-  part : x ≡ Read → hasEnded q ≡ false → 40 ≤ n → isPart (front s) ≡ true → length s < 259 → Why q s n x
+  full : x ≡ Again → hasEnded q ≡ false → n < 48 → Why q s n x
+  part : x ≡ Read → hasEnded q ≡ false → 48 ≤ n → isPart (front s) ≡ true → length s < 259 → Why q s n x
 
 pub record BlockTaken (b : Bench) (s : List ℕ) (n : ℕ) (d : List ℕ) (p : Taken) (q : Bench) (u e : List ℕ) : Type 0 where
   -- whatever follows the octets that were handed in, the run is what was made of them, and then the run from here on what is left and what follows

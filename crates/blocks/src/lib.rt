@@ -98,7 +98,7 @@ fn take_record(
     out: &mut [u8],
     wrote: usize,
 ) -> Progress
-    requires { ⌜ (used ≤ length (now input)) × (wrote + 40 ≤ length (now out)) × (isEnd phase ≡ false) × Valid (now t) ⌝ }
+    requires { ⌜ (used ≤ length (now input)) × (wrote + 48 ≤ length (now out)) × (isEnd phase ≡ false) × Valid (now t) ⌝ }
     ensures run { λ r. ⌜ Advanced (stateIn phase (now (t .entry))) (now (input .entry)) used (now (out .entry)) wrote r (stateIn (r .phase) (now (t .exit))) (now (out .exit)) ⌝ }
     ensures kept { λ _. ⌜ Valid (now (t .exit)) ⌝ }
 {
@@ -222,7 +222,7 @@ fn next_in(phase: Phase, spare: usize) -> Next
 // Takes the first `filled` octets of a block record by record, as far as that can be; where the block is shorter, all of it. Whatever follows these octets,
 // the run on them is what the first `wrote` octets of the output buffer then hold, and then the run from the phase in the answer and the table, on the
 // first `left` octets that the block then holds and what follows. These are the last of the octets that were handed in. The other octets of both
-// buffers stay as they are. `next` says why no more was taken. A line asks for 40 octets of room: in a smaller buffer the run never gets on.
+// buffers stay as they are. `next` says why no more was taken. A line asks for 48 octets of room: in a smaller buffer the run never gets on.
 pub fn take_block(
     t: &mut [u32],
     phase: Phase,

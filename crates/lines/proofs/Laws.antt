@@ -71,7 +71,7 @@ decimal-three n h l =
 
 -- ---- the dotted form of an address
 
-length-dots : (s : List ℕ) → Octets s → length (dotted s) ≤ 4 * length s - 1
+pub length-dots : (s : List ℕ) → Octets s → length (dotted s) ≤ 4 * length s - 1
 unfolding dotted
 length-dots [] o = omega arith
 length-dots (x ∷ []) o = omega (arith, length-decimal-octet x (o 0))

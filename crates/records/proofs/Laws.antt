@@ -13,14 +13,14 @@ and-false true = refl
 and-false false = refl
 
 module _ (d : List ℕ) (at : ℕ) (p : List ℕ) where
-  pub takes-room : at + 40 ≤ length d → length p ≤ 255 → takes d at p ≡ true
+  pub takes-room : at + 48 ≤ length d → length p ≤ 255 → takes d at p ≡ true
   unfolding takes
-  takes-room h l = rw (le-leb (at + 40) (length d) h, le-leb (length p) 255 l)
+  takes-room h l = rw (le-leb (at + 48) (length d) h, le-leb (length p) 255 l)
 
-  pub takes-short : length d < at + 40 → takes d at p ≡ false
+  pub takes-short : length d < at + 48 → takes d at p ≡ false
   unfolding takes
-  takes-short h = rw (lt-leb (at + 40) (length d) h)
+  takes-short h = rw (lt-leb (at + 48) (length d) h)
 
   pub takes-long : 255 < length p → takes d at p ≡ false
   unfolding takes
-  takes-long h = rw (lt-leb (length p) 255 h) (and-false (leb (at + 40) (length d)))
+  takes-long h = rw (lt-leb (length p) 255 h) (and-false (leb (at + 48) (length d)))

@@ -77,4 +77,4 @@ endOf h s = cond (isEnd h) [] (cond (eqb (length s) 0) [] badLine)
 
 -- WHETHER A RECORD IS TAKEN
 unfoldable pub takes : List ℕ → ℕ → List ℕ → Bool
-takes d at p = leb (at + 40) (length d) && leb (length p) 255
+takes d at p = leb (at + 48) (length d) && leb (length p) 255

@@ -16,7 +16,7 @@ const MAX_PAYLOAD: usize = 255;
 
 // A record after the first: judged, and carried out.
 fn later(t: &mut [u32], kind: u8, payload: &[u8], out: &mut [u8], at: usize) -> Step
-    requires { ⌜ (at + 40 ≤ length (now out)) × (length (now payload) ≤ 255) × Valid (now t) ⌝ }
+    requires { ⌜ (at + 48 ≤ length (now out)) × (length (now payload) ≤ 255) × Valid (now t) ⌝ }
     ensures { λ r. ⌜ Stepped (now (out .entry)) at (laterTurn (tableIn (now (t .entry))) kind (now (payload .entry))) r (now (t .exit)) (now (out .exit)) ⌝ }
 {
     let n = payload.len();
@@ -53,7 +53,7 @@ fn carry_out(
     out: &mut [u8],
     at: usize,
 ) -> Step
-    requires { ⌜ (at + 40 ≤ length (now out)) × (length (now payload) ≤ 255) × Valid (now t) ⌝ }
+    requires { ⌜ (at + 48 ≤ length (now out)) × (length (now payload) ≤ 255) × Valid (now t) ⌝ }
     ensures { λ r. ⌜ Stepped (now (out .entry)) at (turn (stateIn phase (now (t .entry))) kind (now (payload .entry))) r (now (t .exit)) (now (out .exit)) ⌝ }
 {
     match phase {
@@ -68,7 +68,7 @@ fn carry_out(
     }
 }
 
-// One whole record, in any state: its line is put from position `at` on. Where fewer than 40 octets are left there, or where the payload has more than
+// One whole record, in any state: its line is put from position `at` on. Where fewer than 48 octets are left there, or where the payload has more than
 // 255 octets, which no frame holds, nothing is done: the answer is `phase` and `at`, and the table and the buffer stay as they are.
 pub fn take_turn(
     t: &mut [u32],

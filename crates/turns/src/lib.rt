@@ -26,7 +26,7 @@ const MAX_READY: usize = 64;
 
 // A bad record: its line is put, and the run ends. The table stays as it is, whatever its words are.
 pub fn refuse(out: &mut [u8], at: usize) -> Step
-    requires { ⌜ at + 40 ≤ length (now out) ⌝ }
+    requires { ⌜ at + 48 ≤ length (now out) ⌝ }
     ensures { λ r. ⌜ ((w : List ℕ) → Valid w → Stepped (now (out .entry)) at (badTurn (tableIn w)) r w (now (out .exit))) ⌝ }
 {
     let end = answer_lines::put_bad(out, at);
@@ -50,7 +50,7 @@ fn copy_words(t: &mut [u32], from: &[u32])
 
 // The first record: a text that names the segment.
 pub fn begin(t: &mut [u32], text: &[u8], out: &mut [u8], at: usize) -> Step
-    requires { ⌜ (at + 40 ≤ length (now out)) × Valid (now t) ⌝ }
+    requires { ⌜ (at + 48 ≤ length (now out)) × Valid (now t) ⌝ }
     ensures { λ r. ⌜ Stepped (now (out .entry)) at (textTurn (tableIn (now (t .entry))) (now (text .entry))) r (now (t .exit)) (now (out .exit)) ⌝ }
 {
     let read = esi::read_text(text);
@@ -75,7 +75,7 @@ pub fn begin(t: &mut [u32], text: &[u8], out: &mut [u8], at: usize) -> Step
 
 // An announcement: 25 route octets, then communities.
 pub fn announce(t: &mut [u32], payload: &[u8], out: &mut [u8], at: usize) -> Step
-    requires { ⌜ (at + 40 ≤ length (now out)) × (25 ≤ length (now payload)) × Valid (now t) ⌝ }
+    requires { ⌜ (at + 48 ≤ length (now out)) × (25 ≤ length (now payload)) × Valid (now t) ⌝ }
     ensures { λ r. ⌜ Stepped (now (out .entry)) at (announceTurn (tableIn (now (t .entry))) (now (payload .entry))) r (now (t .exit)) (now (out .exit)) ⌝ }
 {
     let verdict = segment::announce(t, &payload[..25], &payload[25..]);
@@ -90,7 +90,7 @@ pub fn announce(t: &mut [u32], payload: &[u8], out: &mut [u8], at: usize) -> Ste
 
 // A withdrawal of an address.
 pub fn withdraw(t: &mut [u32], payload: &[u8], out: &mut [u8], at: usize) -> Step
-    requires { ⌜ (at + 40 ≤ length (now out)) × (length (now payload) ≡ 4) × Valid (now t) ⌝ }
+    requires { ⌜ (at + 48 ≤ length (now out)) × (length (now payload) ≡ 4) × Valid (now t) ⌝ }
     ensures { λ r. ⌜ Stepped (now (out .entry)) at (withdrawTurn (tableIn (now (t .entry))) (now (payload .entry))) r (now (t .exit)) (now (out .exit)) ⌝ }
 {
     let address = octets::u32_of(payload[0], payload[1], payload[2], payload[3]);
@@ -120,7 +120,7 @@ fn addresses_in(s: &[u8]) -> [u32; 64]
 
 // A query: the tag, then the ready addresses.
 pub fn query(t: &[u32], payload: &[u8], out: &mut [u8], at: usize) -> Step
-    requires { ⌜ (at + 40 ≤ length (now out)) × (4 ≤ length (now payload)) × (length (now payload) ≤ 255) × Valid (now t) ⌝ }
+    requires { ⌜ (at + 48 ≤ length (now out)) × (4 ≤ length (now payload)) × (length (now payload) ≤ 255) × Valid (now t) ⌝ }
     ensures { λ r. ⌜ Stepped (now (out .entry)) at (queryTurn (tableIn (now (t .entry))) (now (payload .entry))) r (now (t .entry)) (now (out .exit)) ⌝ }
 {
     let tag = octets::u32_of(payload[0], payload[1], payload[2], payload[3]);

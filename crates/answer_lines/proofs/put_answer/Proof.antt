@@ -8,7 +8,7 @@ returns : tie.Need-returns
 returns c = written-as (c .before .before .put-line .ensures) (query-refused _ (c .before .before .before .before .if1 .taken))
 
 returns-2 : tie.Need-returns-2
-returns-2 c = written-as (c .before .before .put-elected .ensures) (query-accepted _ (c .before .before .before .before .if1 .left))
+returns-2 c = written-as (c .before .before .put-elected .ensures) (query-accepted _ (c .before .before .before .before .before .if1 .left))
 
 pub put-answer-spec : {M : Type 1} → statement M
 put-answer-spec =
