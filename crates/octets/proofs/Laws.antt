@@ -16,7 +16,7 @@ use lib.Dec.{leb, eqb}
 use borrow.Author.Tests.{eq-eqb, ne-eqb, eqb-true, le-leb, lt-leb, leb-true}
 use Rattle.lists.proofs.Bools.{cond-by, not-true-false}
 use Rattle.lists.proofs.Lists.{all-each, all-not}
-use Rattle.octets.specs.Octets.{numberOf, octetsOf, sameNumbers, allAre, stored}
+use Rattle.octets.specs.Octets.{numberOf, wordAt, octetsOf, sameNumbers, allAre, stored}
 
 -- ---- every element is an octet
 
@@ -182,3 +182,6 @@ pub take-elements : (n i : ℕ) (s : List ℕ) → i + n ≤ length s → take n
 take-elements zero i s h = refl
 take-elements (suc n) i s h =
     ap (take (suc n)) (drop-cons s i 0 (omega arith)) ∙ ap (getD s i 0 ∷_) (take-elements n (suc i) s (omega arith))
+
+pub word-elements : (i v : ℕ) (s : List ℕ) → i + 4 ≤ length s → v ≡ numberOf (elements 4 i s) → v ≡ wordAt i s
+word-elements i v s h q = q ∙ ap numberOf (sym (take-elements 4 i s h))

@@ -1,5 +1,6 @@
 -- Octets and the numbers that they make, high octet first, as document 01 writes every field ("The route", "The community").
 --   numberOf s        == the number that the octets s make
+--   wordAt i s        == the number that the four octets of s from offset i on make
 --   octetsOf n v      == the low n octets of the number v
 --   sameNumbers a b    == whether a and b are the same numbers, one by one
 --   allAre x s        == whether every octet of s is x
@@ -15,6 +16,9 @@ use Rattle.lists.specs.Lists.{all}
 unfoldable pub numberOf : List ℕ → ℕ
 numberOf [] = 0
 numberOf (x ∷ s) = x * 256 ^ length s + numberOf s
+
+abbrev pub wordAt : ℕ → List ℕ → ℕ
+wordAt i s = numberOf (take 4 (drop i s))
 
 unfoldable pub octetsOf : ℕ → ℕ → List ℕ
 octetsOf zero v = []

@@ -11,7 +11,7 @@ use borrow.Author.Tests.{not-false, not-true, eq-eqb, ne-eqb, eqb-true, eqb-fals
 use Rattle.lists.proofs.Bools.{cond-by, eq-not, ne-not, not-eq, or-left, or-right}
 use Rattle.lists.proofs.Checks.{refused-at, refused-none, passed, each}
 use Rattle.octets.specs.Octets.{numberOf, octetsOf, stored}
-use Rattle.octets.proofs.Laws.{elements, take-elements, length-octets, number-octets-small, stored-front, stored-all, stored-stored}
+use Rattle.octets.proofs.Laws.{elements, word-elements, length-octets, number-octets-small, stored-front, stored-all, stored-stored}
 use Rattle.address.specs.declared.Family.{Family}
 use Rattle.address.specs.Address.{rowUnder, addressRow, IsAddress, ipv4, ipv6, octetsIn, familyOf, octetsOfAddress, isZero}
 use Rattle.address.specs.declared.Address.{Address}
@@ -20,7 +20,7 @@ use Rattle.address.proofs.Laws.{row-address}
 use Rattle.rows.proofs.Compared.{Words}
 use Rattle.esi.specs.Reserved.{reserved}
 use Rattle.esi.proofs.Laws.{length-not-reserved}
-use Rattle.route.specs.Route.{totalOf, routeTotal, wordAt, ipv4In, ipv6In, bitsOf, routeDistinguisher, routeEsi, routeOriginator, routeAddress, routeNumber, offsetOf, routeOffset, Fault, none, total, lengthOctet, type, bits, identifier, zeroAddress, checkedNumber, checkedOffset, checkedAddress, routeValue, routeChecked, readAs, readRoute, routeOctets, writeRouteNumber, routeWritten}
+use Rattle.route.specs.Route.{totalOf, routeTotal, ipv4In, ipv6In, bitsOf, routeDistinguisher, routeEsi, routeOriginator, routeAddress, routeNumber, offsetOf, routeOffset, Fault, none, total, lengthOctet, type, bits, identifier, zeroAddress, checkedNumber, checkedOffset, checkedAddress, routeValue, routeChecked, readAs, readRoute, routeOctets, writeRouteNumber, routeWritten}
 use Rattle.route.specs.declared.RouteRead.{RouteRead}
 use Rattle.route.specs.declared.Checked.{Checked}
 use Rattle.route.specs.declared.Checked.the-variants.{Originator, Refused}
@@ -129,19 +129,16 @@ module _ (s : List ℕ) where
 
 -- THE ORIGINATOR, word by word
 module _ (s : List ℕ) where
-  word : (i v : ℕ) → i + 4 ≤ length s → v ≡ numberOf (elements 4 i s) → v ≡ wordAt i s
-  word i v h q = q ∙ ap numberOf (sym (take-elements 4 i s h))
-
   pub ipv4-words : (v : ℕ) → 25 ≤ length s → v ≡ numberOf (elements 4 21 s) → record { family = V4; w0 = v; w1 = 0; w2 = 0; w3 = 0 } ≡ ipv4In s
   unfolding ipv4In
-  ipv4-words v l q = rw (word 21 v (omega arith) q)
+  ipv4-words v l q = rw (word-elements 21 v s (omega arith) q)
 
   pub ipv6-words : (a b c d : ℕ) → 37 ≤ length s
       → a ≡ numberOf (elements 4 21 s) → b ≡ numberOf (elements 4 25 s) → c ≡ numberOf (elements 4 29 s) → d ≡ numberOf (elements 4 33 s)
       → record { family = V6; w0 = a; w1 = b; w2 = c; w3 = d } ≡ ipv6In s
   unfolding ipv6In
   ipv6-words a b c d l p q r t =
-      rw (word 21 a (omega arith) p, word 25 b (omega arith) q, word 29 c (omega arith) r, word 33 d (omega arith) t)
+      rw (word-elements 21 a s (omega arith) p, word-elements 25 b s (omega arith) q, word-elements 29 c s (omega arith) r, word-elements 33 d s (omega arith) t)
 
   -- by the family
   pub total-six : length s ≡ routeTotal s → getD s 20 0 ≡ 128 → 37 ≤ length s

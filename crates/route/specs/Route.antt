@@ -3,7 +3,6 @@
 -- route has 25 octets or 37.
 --   totalOf b                 == how many octets a route has whose address has b bits: 37 for 128, else 25
 --   routeTotal s              == how many octets the route s should have
---   wordAt i s                == the number of the four octets from offset i on
 --   ipv4In s, ipv6In s        == the address of each family that the octets from offset 21 on say
 --   routeDistinguisher s, routeEsi s, routeOriginator s  == the three fields of the route s
 --   routeAddress s            == the originator's address as a row of words, which is what an address is in every definition
@@ -29,7 +28,7 @@ use mathlib.Core.List.{List, [], _∷_, _++_}
 use lib.ListN.{length, getD, take, drop, replicate}
 use lib.Dec.{ltb, eqb}
 use Rattle.lists.specs.Checks.{firstRefusal}
-use Rattle.octets.specs.Octets.{numberOf, octetsOf}
+use Rattle.octets.specs.Octets.{wordAt}
 use Rattle.address.specs.Address.{addressRow, familyOf, octetsOfAddress, isZero}
 use Rattle.address.specs.declared.Address.{Address}
 use Rattle.address.specs.declared.Family.the-variants.{V4, V6}
@@ -50,9 +49,6 @@ totalOf b = cond (eqb b 128) 37 25
 
 abbrev pub routeTotal : List ℕ → ℕ
 routeTotal s = totalOf (getD s 20 0)
-
-abbrev pub wordAt : ℕ → List ℕ → ℕ
-wordAt i s = numberOf (take 4 (drop i s))
 
 unfoldable pub ipv4In : List ℕ → Address
 ipv4In s = record { family = V4; w0 = wordAt 21 s; w1 = 0; w2 = 0; w3 = 0 }

@@ -80,8 +80,8 @@ fn is_address_length(bits: u8) -> bool
     bits == 128
 }
 
-// How many octets a route has whose address has so many bits.
-fn total(bits: u8) -> usize
+// How many octets a route has whose address has so many bits: 37 for 128, else 25.
+pub fn total(bits: u8) -> usize
     ensures { λ r. ⌜ r ≡ totalOf bits ⌝ }
 {
     if bits == 128 {
