@@ -2,6 +2,7 @@
 use Prim.Native.Nat.{ℕ, _-_, _≤_}
 use native.Mathlib.Omega.{arith}
 use mathlib.Core.Path.{_≡_, refl, ap, _∙_, sym, subst}
+use mathlib.Core.Bool.{Bool}
 use mathlib.Core.List.{List, [], _∷_, _++_, append-nil}
 use lib.ListN.{length, getD, take, drop, length-drop, drop-of-length-le}
 use lib.Seq.{take-all}
@@ -10,6 +11,7 @@ use Rattle.octets.specs.Octets.{numberOf}
 use Rattle.octets.proofs.Laws.{front-all}
 use Rattle.esi.specs.declared.TextRead.{TextRead}
 use Rattle.esi.specs.Text.{readText}
+use Rattle.route.specs.Route.{totalOf}
 use Rattle.layout.specs.Table.{Table}
 use Rattle.table.specs.Table.{freshTable, announced, withdrawn, Told}
 use Rattle.layout.specs.Words.{tableIn, Valid}
@@ -17,19 +19,11 @@ use Rattle.election.specs.declared.Answer.{Answer}
 use Rattle.election.specs.Election.{electOf}
 use Rattle.answer_lines.specs.AnswerLines.{line, readLine, queryLine, Written}
 use Rattle.answer_lines.proofs.Laws.{written-as}
+use Rattle.payloads.specs.Payloads.{addressOf, addressesIn}
 use Rattle.turns.specs.declared.Phase.the-variants.{Running, Ended}
 use Rattle.turns.specs.declared.Step.{Step}
-use Rattle.turns.specs.Turns.{Turn, stateIn, running, textTurn, announceTurn, withdrawTurn, queryTurn, wordsIn}
+use Rattle.turns.specs.Turns.{Turn, stateIn, running, textTurn, announceTurn, withdrawTurn, queryTurn}
 use Rattle.turns.specs.Steps.{Stepped}
-
--- four octets are the list of themselves
-pub four : (l : List ℕ) → length l ≡ 4 → getD l 0 0 ∷ getD l 1 0 ∷ getD l 2 0 ∷ getD l 3 0 ∷ [] ≡ l
-four [] h = absurd (omega arith)
-four (a ∷ []) h = absurd (omega arith)
-four (a ∷ b ∷ []) h = absurd (omega arith)
-four (a ∷ b ∷ c ∷ []) h = absurd (omega arith)
-four (a ∷ b ∷ c ∷ d ∷ []) h = refl
-four (a ∷ b ∷ c ∷ d ∷ e ∷ l) h = absurd (omega arith)
 
 -- the first four of at least four octets
 pub four-front : (l : List ℕ) → 4 ≤ length l → getD l 0 0 ∷ getD l 1 0 ∷ getD l 2 0 ∷ getD l 3 0 ∷ [] ≡ take 4 l
@@ -43,19 +37,19 @@ pub take-of-all : (n : ℕ) (l : List ℕ) → length l ≡ n → take n l ≡ l
 take-of-all n l h = take-all n l (omega arith)
 
 module _ {d : List ℕ} {at n : ℕ} {e : List ℕ} where
-  pub stepped-announce : (t : Table) (p : List ℕ) {m l : ℕ} {v : List ℕ} → Told (announced t (take 25 p) (take (length p - 25) (drop 25 p))) m l v → Valid v
+  pub stepped-announce : (t : Table) (p : List ℕ) (k : ℕ) {m l : ℕ} {v : List ℕ} → k ≡ totalOf (getD p 20 0) → Told (announced t (take k p) (take (length p - k) (drop k p))) m l v → Valid v
       → Written d at (readLine 97 m l) n e → Stepped d at (announceTurn t p) (record { phase = Running; at = n }) v e
   unfolding announceTurn
-  stepped-announce t p {m} {l} {v} told k w =
-      let a = take-of-all (length p - 25) (drop 25 p) (length-drop 25 p) in
-      let q : Told (announced t (take 25 p) (drop 25 p)) m l v = subst (λ (z : List ℕ). Told (announced t (take 25 p) z) m l v) a told in
-      record { put = written-as w (rw (q .0, q .1)); next = ap running (q .2); kept = k }
+  stepped-announce t p k {m} {l} {v} g told h w =
+      let a = take-of-all (length p - k) (drop k p) (length-drop k p) in
+      let q : Told (announced t (take k p) (drop k p)) m l v = subst (λ (z : List ℕ). Told (announced t (take k p) z) m l v) a told in
+      rw (← g) (record { put = written-as w (rw (q .0, q .1)); next = ap running (q .2); kept = h })
 
-  pub stepped-withdraw : (t : Table) (p : List ℕ) {a m : ℕ} {v : List ℕ} → a ≡ numberOf p → Told (withdrawn t a) m 0 v → Valid v
-      → Written d at (line 119 m) n e → Stepped d at (withdrawTurn t p) (record { phase = Running; at = n }) v e
+  pub stepped-withdraw : (t : Table) (s : Bool) (p a : List ℕ) {m : ℕ} {v : List ℕ} → a ≡ addressOf s p → Told (withdrawn t a) m 0 v → Valid v
+      → Written d at (line 119 m) n e → Stepped d at (withdrawTurn t s p) (record { phase = Running; at = n }) v e
   unfolding withdrawTurn
-  stepped-withdraw t p {a} {m} {v} g told k w =
-      let q : Told (withdrawn t (numberOf p)) m 0 v = subst (λ (z : ℕ). Told (withdrawn t z) m 0 v) g told in
+  stepped-withdraw t s p a {m} {v} g told k w =
+      let q : Told (withdrawn t (addressOf s p)) m 0 v = subst (λ (z : List ℕ). Told (withdrawn t z) m 0 v) g told in
       record { put = written-as w (ap (line 119) (q .0)); next = ap running (q .2); kept = k }
 
   module _ (p : List ℕ) (x : TextRead) (q : x ≡ readText p) (w : Written d at (readLine 112 (x .number) (x .offset)) n e) where
@@ -78,11 +72,11 @@ module _ {d : List ℕ} {at n : ℕ} {e : List ℕ} where
           kept = subst Valid (sym c) k;
         }
 
-  pub stepped-query : (v p : List ℕ) (x : Answer) (tag : ℕ) (ready : List ℕ) → tag ≡ numberOf (take 4 p) → ready ≡ wordsIn (drop 4 p)
+  pub stepped-query : (v : List ℕ) (s : Bool) (p : List ℕ) (x : Answer) (tag : ℕ) (ready : List (List ℕ)) → tag ≡ numberOf (take 4 p) → ready ≡ addressesIn s (drop 4 p)
       → x ≡ electOf (tableIn v .esi) (tableIn v .entries) tag ready → Valid v → Written d at (queryLine x) n e
-      → Stepped d at (queryTurn (tableIn v) p) (record { phase = Running; at = n }) v e
+      → Stepped d at (queryTurn (tableIn v) s p) (record { phase = Running; at = n }) v e
   unfolding queryTurn
-  stepped-query v p x tag ready g l q k w =
+  stepped-query v s p x tag ready g l q k w =
       record { put = written-as w (ap queryLine (q ∙ rw (g, l))); next = refl; kept = k }
 
 -- the same step, said of another turn

@@ -1,3 +1,3 @@
--- Laws of turns, and of the addresses in a payload.
+-- Laws of turns, and of the ready list of a query.
 pub mod Laws
-mod Words
+mod Ready

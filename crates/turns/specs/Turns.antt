@@ -7,22 +7,23 @@
 --   atEnd t            == the state in which nothing more is looked at
 --   badTurn t          == a bad record's turn
 --   textTurn t p       == the turn of the first record, the text p (a plate in document 01)
---   announceTurn t p   == the turn of an announcement: 25 route octets, then communities
---   withdrawTurn t p   == the turn of a withdrawal
---   wordsIn s          == the numbers that the octets s make, four octets each
---   queryTurn t p      == the turn of a query: the tag, then the ready addresses
+--   announceTurn t p   == the turn of an announcement: the route octets, 25 of them or, where octet 20 says 128, 37, then communities
+--   withdrawTurn t v p == the turn of a withdrawal of an address, IPv6 where v says so
+--   queryTurn t v p    == the turn of a query: the tag, then the ready addresses, IPv6 where v says so
 use Prim.Native.Nat.{ℕ}
-use mathlib.Core.Bool.{cond}
-use mathlib.Core.List.{List, [], _∷_}
-use lib.ListN.{take, drop}
+use mathlib.Core.Bool.{Bool, cond}
+use mathlib.Core.List.{List}
+use lib.ListN.{getD, take, drop}
 use lib.Dec.{eqb}
 use Rattle.octets.specs.Octets.{numberOf}
 use Rattle.esi.specs.Text.{readText}
+use Rattle.route.specs.Route.{totalOf}
 use Rattle.layout.specs.Table.{Table}
 use Rattle.layout.specs.Words.{tableIn}
 use Rattle.table.specs.Table.{freshTable, announced, withdrawn}
 use Rattle.election.specs.Election.{electOf}
 use Rattle.answer_lines.specs.AnswerLines.{line, readLine, badLine, queryLine}
+use Rattle.payloads.specs.Payloads.{addressOf, addressesIn}
 use Rattle.turns.specs.declared.Phase.{Phase}
 use Rattle.turns.specs.declared.Phase.the-variants.{Running, Ended}
 
@@ -56,26 +57,18 @@ textTurn t p = record {
 }
 
 unfoldable pub announceTurn : Table → List ℕ → Turn
-announceTurn t p = record {
-  line = readLine 97 (announced t (take 25 p) (drop 25 p) .number) (announced t (take 25 p) (drop 25 p) .offset);
-  next = running (announced t (take 25 p) (drop 25 p) .table);
-}
+announceTurn t p =
+    let n = totalOf (getD p 20 0) in
+    let change = announced t (take n p) (drop n p) in
+    record { line = readLine 97 (change .number) (change .offset); next = running (change .table) }
 
-unfoldable pub withdrawTurn : Table → List ℕ → Turn
-withdrawTurn t p = record {
-  line = line 119 (withdrawn t (numberOf p) .number);
-  next = running (withdrawn t (numberOf p) .table);
-}
+unfoldable pub withdrawTurn : Table → Bool → List ℕ → Turn
+withdrawTurn t v p =
+    let change = withdrawn t (addressOf v p) in
+    record { line = line 119 (change .number); next = running (change .table) }
 
-unfoldable pub wordsIn : List ℕ → List ℕ
-wordsIn [] = []
-wordsIn (a ∷ []) = []
-wordsIn (a ∷ b ∷ []) = []
-wordsIn (a ∷ b ∷ c ∷ []) = []
-wordsIn (a ∷ b ∷ c ∷ d ∷ s) = numberOf (a ∷ b ∷ c ∷ d ∷ []) ∷ wordsIn s
-
-unfoldable pub queryTurn : Table → List ℕ → Turn
-queryTurn t p = record {
-  line = queryLine (electOf (t .esi) (t .entries) (numberOf (take 4 p)) (wordsIn (drop 4 p)));
+unfoldable pub queryTurn : Table → Bool → List ℕ → Turn
+queryTurn t v p = record {
+  line = queryLine (electOf (t .esi) (t .entries) (numberOf (take 4 p)) (addressesIn v (drop 4 p)));
   next = running t;
 }

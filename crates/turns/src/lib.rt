@@ -1,11 +1,14 @@
 // The turn of one bench record of each kind (document 01, "The bench program"): it is carried out upon a lent table, and its line is put into a lent
 // buffer by `answer_lines`.
+use address::WIDTH;
 ghost use mathlib.Core.Path.{_≡_};
-ghost use Prim.Native.Nat.{ℕ, _+_, _≤_, _/_};
+ghost use Prim.Native.Nat.{ℕ, _+_, _≤_};
 ghost use mathlib.Core.List.{List};
-ghost use lib.ListN.{length, take};
+ghost use lib.ListN.{length, getD};
 ghost use Rattle.layout.specs.Words.{tableIn, Valid};
-ghost use Rattle.turns.specs.Turns.{badTurn, textTurn, announceTurn, withdrawTurn, wordsIn, queryTurn};
+ghost use Rattle.route.specs.Route.{totalOf};
+ghost use Rattle.payloads.specs.Payloads.{sizeOf};
+ghost use Rattle.turns.specs.Turns.{badTurn, textTurn, announceTurn, withdrawTurn, queryTurn};
 ghost use Rattle.turns.specs.Steps.{Stepped};
 
 // Where a run stands: no record was taken, records are carried out, nothing more is looked at.
@@ -21,8 +24,8 @@ pub struct Step {
     pub at: usize,
 }
 
-// The most ready addresses that are read from a query.
-const MAX_READY: usize = 64;
+// The words of as many rows as a ready list may have.
+const READY_WORDS: usize = 320;
 
 // A bad record: its line is put, and the run ends. The table stays as it is, whatever its words are.
 pub fn refuse(out: &mut [u8], at: usize) -> Step
@@ -73,12 +76,13 @@ pub fn begin(t: &mut [u32], text: &[u8], out: &mut [u8], at: usize) -> Step
     }
 }
 
-// An announcement: 25 route octets, then communities.
+// An announcement: the route octets, 25 or 37 by the length of its address, then communities.
 pub fn announce(t: &mut [u32], payload: &[u8], out: &mut [u8], at: usize) -> Step
-    requires { ⌜ (at + 48 ≤ length (now out)) × (25 ≤ length (now payload)) × Valid (now t) ⌝ }
+    requires { ⌜ (at + 48 ≤ length (now out)) × (totalOf (getD (now payload) 20 0) ≤ length (now payload)) × Valid (now t) ⌝ }
     ensures { λ r. ⌜ Stepped (now (out .entry)) at (announceTurn (tableIn (now (t .entry))) (now (payload .entry))) r (now (t .exit)) (now (out .exit)) ⌝ }
 {
-    let verdict = segment::announce(t, &payload[..25], &payload[25..]);
+    let n = route::total(payload[20]);
+    let verdict = segment::announce(t, &payload[..n], &payload[n..]);
     let number = verdict.number;
     let offset = verdict.offset;
     let end = answer_lines::put_read(out, at, b'a', number, offset);
@@ -89,11 +93,11 @@ pub fn announce(t: &mut [u32], payload: &[u8], out: &mut [u8], at: usize) -> Ste
 }
 
 // A withdrawal of an address.
-pub fn withdraw(t: &mut [u32], payload: &[u8], out: &mut [u8], at: usize) -> Step
-    requires { ⌜ (at + 48 ≤ length (now out)) × (length (now payload) ≡ 4) × Valid (now t) ⌝ }
-    ensures { λ r. ⌜ Stepped (now (out .entry)) at (withdrawTurn (tableIn (now (t .entry))) (now (payload .entry))) r (now (t .exit)) (now (out .exit)) ⌝ }
+pub fn withdraw(t: &mut [u32], v6: bool, payload: &[u8], out: &mut [u8], at: usize) -> Step
+    requires { ⌜ (at + 48 ≤ length (now out)) × (length (now payload) ≡ sizeOf v6) × Valid (now t) ⌝ }
+    ensures { λ r. ⌜ Stepped (now (out .entry)) at (withdrawTurn (tableIn (now (t .entry))) v6 (now (payload .entry))) r (now (t .exit)) (now (out .exit)) ⌝ }
 {
-    let address = octets::u32_of(payload[0], payload[1], payload[2], payload[3]);
+    let address = payloads::address_at(payload, 0, v6);
     let number = segment::withdraw(t, address);
     let end = answer_lines::put_line(out, at, b'w', number);
     Step {
@@ -102,31 +106,16 @@ pub fn withdraw(t: &mut [u32], payload: &[u8], out: &mut [u8], at: usize) -> Ste
     }
 }
 
-// The addresses that a run of octets says, four octets each, at the front of an array.
-fn addresses_in(s: &[u8]) -> [u32; 64]
-    requires { ⌜ length (now s) ≤ 256 ⌝ }
-    ensures { λ r. ⌜ take (length (now (s .entry)) / 4) r ≡ wordsIn (now (s .entry)) ⌝ }
-{
-    let mut ready = [0u32; MAX_READY];
-    let n = s.len() / 4;
-    let mut i = 0;
-    while i < n {
-        let p = 4 * i;
-        ready[i] = octets::u32_of(s[p], s[p + 1], s[p + 2], s[p + 3]);
-        i += 1;
-    }
-    ready
-}
-
 // A query: the tag, then the ready addresses.
-pub fn query(t: &[u32], payload: &[u8], out: &mut [u8], at: usize) -> Step
+pub fn query(t: &[u32], v6: bool, payload: &[u8], out: &mut [u8], at: usize) -> Step
     requires { ⌜ (at + 48 ≤ length (now out)) × (4 ≤ length (now payload)) × (length (now payload) ≤ 255) × Valid (now t) ⌝ }
-    ensures { λ r. ⌜ Stepped (now (out .entry)) at (queryTurn (tableIn (now (t .entry))) (now (payload .entry))) r (now (t .entry)) (now (out .exit)) ⌝ }
+    ensures { λ r. ⌜ Stepped (now (out .entry)) at (queryTurn (tableIn (now (t .entry))) v6 (now (payload .entry))) r (now (t .entry)) (now (out .exit)) ⌝ }
 {
     let tag = octets::u32_of(payload[0], payload[1], payload[2], payload[3]);
     let rest = &payload[4..];
-    let ready = addresses_in(rest);
-    let n = rest.len() / 4;
+    let mut ready = [0u32; READY_WORDS];
+    payloads::put_rows(&mut ready, rest, v6);
+    let n = rest.len() / payloads::size(v6) * WIDTH;
     let answer = segment::elect(t, tag, &ready[..n]);
     let end = answer_lines::put_answer(out, at, answer);
     Step {
