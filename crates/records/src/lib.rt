@@ -9,39 +9,81 @@ ghost use lib.ListN.{length};
 ghost use Rattle.layout.specs.Words.{tableIn, Valid};
 ghost use Rattle.turns.specs.Turns.{stateIn};
 ghost use Rattle.turns.specs.Steps.{Stepped};
-ghost use Rattle.records.specs.Records.{laterTurn, turn, takes};
+ghost use Rattle.records.specs.Records.{announcementOf, withdrawalOf, queryOf, judgedOf, laterTurn, turn, takes};
 
 // The most octets that a record's payload has.
 const MAX_PAYLOAD: usize = 255;
+
+// What a record after the first is; a withdrawal and a query say whether their addresses are IPv6.
+pub enum Judged {
+    Announcement,
+    Withdrawal(bool),
+    Query(bool),
+    Bad,
+}
+
+// What a record is that should be an announcement: bad where it ends before its route does.
+fn announcement(payload: &[u8]) -> Judged
+    ensures { λ r. ⌜ r ≡ announcementOf (now (payload .entry)) ⌝ }
+{
+    if payload.len() < 25 {
+        return Judged::Bad;
+    }
+    if payload.len() < route::total(payload[20]) {
+        return Judged::Bad;
+    }
+    Judged::Announcement
+}
+
+// What a record is that should be a withdrawal: bad unless it is one address.
+fn withdrawal(payload: &[u8], v6: bool) -> Judged
+    ensures { λ r. ⌜ r ≡ withdrawalOf v6 (now (payload .entry)) ⌝ }
+{
+    if payload.len() != payloads::size(v6) {
+        return Judged::Bad;
+    }
+    Judged::Withdrawal(v6)
+}
+
+// What a record is that should be a query: bad unless it is a tag and whole addresses.
+fn query(payload: &[u8], v6: bool) -> Judged
+    ensures { λ r. ⌜ r ≡ queryOf v6 (now (payload .entry)) ⌝ }
+{
+    if payload.len() < 4 {
+        return Judged::Bad;
+    }
+    if (payload.len() - 4) % payloads::size(v6) != 0 {
+        return Judged::Bad;
+    }
+    Judged::Query(v6)
+}
+
+// What a record after the first is, by its kind and its payload.
+fn judge(kind: u8, payload: &[u8]) -> Judged
+    ensures { λ r. ⌜ r ≡ judgedOf kind (now (payload .entry)) ⌝ }
+{
+    match kind {
+        1 => announcement(payload),
+        2 => withdrawal(payload, false),
+        3 => query(payload, false),
+        4 => withdrawal(payload, true),
+        5 => query(payload, true),
+        _ => Judged::Bad,
+    }
+}
 
 // A record after the first: judged, and carried out.
 fn later(t: &mut [u32], kind: u8, payload: &[u8], out: &mut [u8], at: usize) -> Step
     requires { ⌜ (at + 48 ≤ length (now out)) × (length (now payload) ≤ 255) × Valid (now t) ⌝ }
     ensures { λ r. ⌜ Stepped (now (out .entry)) at (laterTurn (tableIn (now (t .entry))) kind (now (payload .entry))) r (now (t .exit)) (now (out .exit)) ⌝ }
 {
-    let n = payload.len();
-    if kind == 1 {
-        if n < 25 {
-            return turns::refuse(out, at);
-        }
-        return turns::announce(t, payload, out, at);
+    let judged = judge(kind, payload);
+    match judged {
+        Judged::Announcement => turns::announce(t, payload, out, at),
+        Judged::Withdrawal(v6) => turns::withdraw(t, v6, payload, out, at),
+        Judged::Query(v6) => turns::query(t, v6, payload, out, at),
+        Judged::Bad => turns::refuse(out, at),
     }
-    if kind == 2 {
-        if n != 4 {
-            return turns::refuse(out, at);
-        }
-        return turns::withdraw(t, payload, out, at);
-    }
-    if kind != 3 {
-        return turns::refuse(out, at);
-    }
-    if n < 4 {
-        return turns::refuse(out, at);
-    }
-    if n % 4 != 0 {
-        return turns::refuse(out, at);
-    }
-    turns::query(t, payload, out, at)
 }
 
 // One whole record, in any state.

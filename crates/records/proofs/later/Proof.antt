@@ -1,56 +1,84 @@
--- `later` meets its contract: which turn each branch takes. Assumes nothing.
-use native.Mathlib.Omega.{arith}
+-- `later` meets its contract: each case of what the record is has its turn. Assumes nothing.
+use Prim.Native.Nat.{ℕ}
+use mathlib.Core.Path.{_≡_, sym, _∙_, subst}
+use mathlib.Core.List.{List}
 use Rattle.layout.specs.Words.{tableIn}
 use Rattle.turns.proofs.Laws.{stepped-as}
-use Rattle.records.proofs.Turns.{later-announce, later-announce-not, later-withdraw, later-withdraw-not, later-none, later-query, later-query-short, later-query-odd}
+use Rattle.records.specs.Records.{judgedOf, turnOf, laterTurn}
+use Rattle.records.specs.declared.Judged.{Judged}
+use Rattle.records.specs.declared.Judged.the-variants.{Announcement, Withdrawal, Query, Bad}
+use Rattle.records.proofs.Turns.{Fits, judged-fits, turn-of}
 use borrow.Author.Needs.{needs}
 use Rattle.records.proofs.later.Statement.{statement}
 use Rattle.records.proofs.later.Tie as tie
 
+-- what the payload has, and whose turn it is, where the record is j
+module _ (c : tie.After-judge) where
+  abbrev start : tie.Start
+  start = c .before .before .before .before
+
+  abbrev p : List ℕ
+  p = start .args .payload .now
+
+  is : (j : Judged) → c .judge .result ≡ j → judgedOf (start .args .kind) p ≡ j
+  is j e = sym (c .judge .ensures) ∙ e
+
+  has : (j : Judged) → c .judge .result ≡ j → Fits j p
+  has j e = subst (λ (x : Judged). Fits x p) (is j e) (judged-fits (start .args .kind) p)
+
+  turn : (j : Judged) → c .judge .result ≡ j → turnOf j (tableIn (start .args .t .now)) p ≡ laterTurn (tableIn (start .args .t .now)) (start .args .kind) p
+  turn j e = turn-of (tableIn (start .args .t .now)) (start .args .kind) p j (is j e)
+
+announce-requires : tie.Need-announce-requires
+announce-requires c κs =
+    let told = c .before .before in
+    let judged = told .before .before in
+    let s = start judged in
+    (s .pre .0, has judged Announcement (told .enum-told .given .1), s .pre .2)
+
+withdraw-requires : tie.Need-withdraw-requires
+withdraw-requires c κs =
+    let told = c .before .before .before in
+    let judged = told .before .before in
+    let s = start judged in
+    (s .pre .0, has judged (Withdrawal _) (told .judged .given .1), s .pre .2)
+
+query-requires : tie.Need-query-requires
+query-requires c κs =
+    let told = c .before .before .before in
+    let judged = told .before .before in
+    let s = start judged in
+    (s .pre .0, has judged (Query _) (told .judged2 .given .1), s .pre .1, s .pre .2)
+
 returns : tie.Need-returns
+unfolding turnOf
 returns c =
-    let s = c .before .before .before .before .before .before .before .before .before in
-    let a = s .args in
-    stepped-as (c .before .before .refuse .ensures (a .t .now) (s .pre .2)) (later-announce-not (tableIn (a .t .now)) (a .kind) (a .payload .now) (omega arith) (omega arith))
+    let called = c .before .before .before .before in
+    let told = called .before .before .before in
+    stepped-as (called .announce .ensures) (turn (told .before .before) Announcement (told .enum-told .given .1))
 
 returns-2 : tie.Need-returns-2
+unfolding turnOf
 returns-2 c =
-    let a = c .before .before .before .before .before .before .before .before .before .before .before .before .args in
-    stepped-as (c .before .before .before .before .announce .ensures) (later-announce (tableIn (a .t .now)) (a .kind) (a .payload .now) (omega arith) (omega arith))
+    let called = c .before .before .before .before in
+    let told = called .before .before .before .before in
+    stepped-as (called .withdraw .ensures) (turn (told .before .before) (Withdrawal _) (told .judged .given .1))
 
 returns-3 : tie.Need-returns-3
+unfolding turnOf
 returns-3 c =
-    let s = c .before .before .before .before .before .before .before .before .before .before in
-    let a = s .args in
-    stepped-as (c .before .before .refuse2 .ensures (a .t .now) (s .pre .2)) (later-withdraw-not (tableIn (a .t .now)) (a .kind) (a .payload .now) (omega arith) (λ z. omega arith))
+    let called = c .before .before in
+    let told = called .before .before .before .before in
+    stepped-as (called .query .ensures) (turn (told .before .before) (Query _) (told .judged2 .given .1))
 
 returns-4 : tie.Need-returns-4
+unfolding turnOf
 returns-4 c =
-    let a = c .before .before .before .before .before .before .before .before .before .before .before .before .before .args in
-    stepped-as (c .before .before .before .before .withdraw .ensures) (later-withdraw (tableIn (a .t .now)) (a .kind) (a .payload .now) (omega arith) (omega arith))
-
-returns-5 : tie.Need-returns-5
-returns-5 c =
-    let s = c .before .before .before .before .before .before .before .before .before .before in
-    let a = s .args in
-    stepped-as (c .before .before .refuse3 .ensures (a .t .now) (s .pre .2)) (later-none (tableIn (a .t .now)) (a .kind) (a .payload .now) (λ z. omega arith) (λ z. omega arith) (λ z. omega arith))
-
-returns-6 : tie.Need-returns-6
-returns-6 c =
-    let s = c .before .before .before .before .before .before .before .before .before .before .before in
-    let a = s .args in
-    stepped-as (c .before .before .refuse4 .ensures (a .t .now) (s .pre .2)) (later-query-short (tableIn (a .t .now)) (a .kind) (a .payload .now) (omega arith) (omega arith))
-
-returns-7 : tie.Need-returns-7
-returns-7 c =
-    let s = c .before .before .before .before .before .before .before .before .before .before .before .before in
-    let a = s .args in
-    stepped-as (c .before .before .refuse5 .ensures (a .t .now) (s .pre .2)) (later-query-odd (tableIn (a .t .now)) (a .kind) (a .payload .now) (omega arith) (omega arith) (λ z. omega arith))
-
-returns-8 : tie.Need-returns-8
-returns-8 c =
-    let a = c .before .before .before .before .before .before .before .before .before .before .before .before .before .args in
-    stepped-as (c .before .before .query .ensures) (later-query (tableIn (a .t .now)) (a .kind) (a .payload .now) (omega arith) (omega arith) (omega arith))
+    let called = c .before .before in
+    let told = called .before .before in
+    let judged = told .before .before in
+    let s = start judged in
+    stepped-as (called .refuse .ensures (s .args .t .now) (s .pre .2)) (turn judged Bad (told .enum-told2 .given .1))
 
 pub later-spec : {M : Type 1} → statement M
 later-spec =
@@ -58,28 +86,21 @@ later-spec =
     (tie.spec
     (λ c κs. search needs)
     (λ c. search needs)
-    returns
+    announce-requires
+    (λ c. search needs)
+    withdraw-requires
+    (λ c. search needs)
+    query-requires
+    (λ c. search needs)
     (λ c κs. search needs)
+    (λ c. search needs)
+    (λ c. search needs)
+    returns
     (λ c. search needs)
     (λ c. search needs)
     returns-2
-    (λ c κs. search needs)
+    (λ c. search needs)
     (λ c. search needs)
     returns-3
-    (λ c κs. search needs)
     (λ c. search needs)
-    (λ c. search needs)
-    returns-4
-    (λ c κs. search needs)
-    (λ c. search needs)
-    returns-5
-    (λ c κs. search needs)
-    (λ c. search needs)
-    returns-6
-    (λ c κs. search needs)
-    (λ c. search needs)
-    returns-7
-    (λ c κs. search needs)
-    (λ c. search needs)
-    (λ c. search needs)
-    returns-8)
+    returns-4)
