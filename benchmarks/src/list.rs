@@ -1,15 +1,15 @@
 //! Baseline (b): a plain doubly linked list of heap nodes in rising address order, as routing daemons keep their routes today. A lookup walks from
 //! the head; a new route allocates a node and a withdrawal frees one; an election is one walk over all nodes, and with AC-DF each node's address is
-//! looked for along the ready list.
+//! looked for along the ready list; under algorithm 0 a second walk goes to the one elected.
 
-use crate::answer::{Answer, Segment, Sent, Verdict};
-use crate::octets::{self, Election, MAX_READY, MAX_ROUTES};
+use crate::answer::{Address, Answer, Segment, Sent, Verdict, ROW_WORDS};
+use crate::octets::{self, Election, Number, MAX_ROUTES, TOO_MANY_READY};
 use std::ptr;
 
 struct Node {
     previous: *mut Node,
     next: *mut Node,
-    address: u32,
+    address: Number,
     election: Election,
 }
 
@@ -22,11 +22,25 @@ pub struct List {
 
 impl List {
     /// The first node whose address is not below the one sought, or null.
-    fn at_or_after(&self, address: u32) -> *mut Node {
+    #[inline]
+    fn at_or_after(&self, address: Number) -> *mut Node {
+        match address {
+            Number::V4(sought) => {
+                self.after_all(|one| matches!(one, Number::V4(number) if number < sought))
+            }
+            Number::V6(sought) => {
+                self.after_all(|one| !matches!(one, Number::V6(number) if number >= sought))
+            }
+        }
+    }
+
+    /// The first node whose address is not below, or null.
+    #[inline(always)]
+    fn after_all(&self, is_below: impl Fn(Number) -> bool) -> *mut Node {
         let mut node = self.head;
         // SAFETY: `head` and every `next` are null or point to a node of this list, which only `unlink` and `drop` free.
         unsafe {
-            while !node.is_null() && (*node).address < address {
+            while !node.is_null() && is_below((*node).address) {
                 node = (*node).next;
             }
         }
@@ -34,9 +48,9 @@ impl List {
     }
 
     /// The node of an address, or null.
-    fn find(&self, address: u32) -> *mut Node {
+    fn find(&self, address: Number) -> *mut Node {
         let node = self.at_or_after(address);
-        // SAFETY: as in `at_or_after`.
+        // SAFETY: as in `after_all`.
         if !node.is_null() && unsafe { (*node).address } == address {
             return node;
         }
@@ -44,7 +58,7 @@ impl List {
     }
 
     /// A new node before another; before null is at the end.
-    fn link_before(&mut self, next: *mut Node, address: u32, election: Election) {
+    fn link_before(&mut self, next: *mut Node, address: Number, election: Election) {
         // SAFETY: `next` is null or a node of this list.
         unsafe {
             let previous = if next.is_null() {
@@ -94,11 +108,40 @@ impl List {
     fn nodes(&self) -> impl Iterator<Item = &Node> {
         let mut node = self.head;
         std::iter::from_fn(move || {
-            // SAFETY: as in `at_or_after`; the list is borrowed while the iterator lives.
+            // SAFETY: as in `after_all`; the list is borrowed while the iterator lives.
             let current = unsafe { node.as_ref() }?;
             node = current.next;
             Some(current)
         })
+    }
+
+    /// The answer under algorithm 0: the n candidates are counted along the list, and the one at tag mod n is found by a second walk.
+    #[inline]
+    fn by_modulus(&self, tag: u32, n: u32, candidates: u64) -> Answer {
+        let mut place = (tag % n) as usize;
+        if n as usize != self.count {
+            let mut left = candidates;
+            for _ in 0..place {
+                left &= left - 1;
+            }
+            place = left.trailing_zeros() as usize;
+        }
+        match self.nodes().nth(place) {
+            Some(node) => answer(node, 0, n, candidates),
+            None => Answer::refused(12),
+        }
+    }
+}
+
+fn answer(node: &Node, algorithm: u8, n: u32, candidates: u64) -> Answer {
+    let (family, address) = node.address.answered();
+    Answer {
+        number: 0,
+        family,
+        address,
+        algorithm,
+        n,
+        candidates,
     }
 }
 
@@ -106,6 +149,20 @@ impl Drop for List {
     fn drop(&mut self) {
         while !self.head.is_null() {
             self.unlink(self.head);
+        }
+    }
+}
+
+/// Whether an address is on the ready list. Routers of one site differ in their last words, which are looked at first.
+#[inline]
+fn is_ready(address: Number, ready: &[u32]) -> bool {
+    let (rows, _) = ready.as_chunks::<ROW_WORDS>();
+    match address {
+        Number::V4(number) => rows.iter().any(|row| row[1] == number && row[0] == 4),
+        Number::V6(number) => {
+            let [a, b, c, d] = Address::v6(number).words;
+            rows.iter()
+                .any(|row| row[4] == d && *row == [6, a, b, c, d])
         }
     }
 }
@@ -152,7 +209,7 @@ impl Segment for List {
             Err(refused) => return refused,
         };
         let node = self.at_or_after(address);
-        // SAFETY: as in `at_or_after`.
+        // SAFETY: as in `after_all`.
         if !node.is_null() && unsafe { (*node).address } == address {
             unsafe { (*node).election = election };
             return Verdict::default();
@@ -165,8 +222,9 @@ impl Segment for List {
     }
 
     #[inline]
-    fn withdraw(&mut self, address: u32) -> u8 {
-        if address == 0 {
+    fn withdraw(&mut self, address: Address) -> u8 {
+        let address = Number::of(address);
+        if address.is_zero() {
             return 6;
         }
         let node = self.find(address);
@@ -182,7 +240,7 @@ impl Segment for List {
         if tag == 0 || tag == u32::MAX {
             return Answer::refused(10);
         }
-        if ready.len() > MAX_READY {
+        if ready.len() >= TOO_MANY_READY {
             return Answer::refused(11);
         }
         let Some(first) = self.nodes().next() else {
@@ -198,25 +256,21 @@ impl Segment for List {
         };
 
         let mut agreed = algorithm <= 3;
-        let mut all = [0; MAX_ROUTES];
-        let mut eligible = [0; MAX_ROUTES];
         let mut n = 0;
         let mut candidates = 0u64;
         let mut best: Option<(&Node, u32)> = None;
         for (place, node) in self.nodes().enumerate().take(MAX_ROUTES) {
-            all[place] = node.address;
             if node.election.algorithm != algorithm || node.election.ac_df != ac_df {
                 agreed = false;
             }
-            if ac_df && !ready.contains(&node.address) {
+            if ac_df && !is_ready(node.address, ready) {
                 continue;
             }
-            eligible[n] = node.address;
             n += 1;
             candidates |= 1 << place;
             match algorithm {
                 1 => {
-                    let weight = octets::weight(node.address, digest);
+                    let weight = octets::weight(node.address.low_word(), digest);
                     if best.is_none_or(|(_, top)| weight > top) {
                         best = Some((node, weight));
                     }
@@ -233,35 +287,23 @@ impl Segment for List {
         }
 
         if !agreed {
-            return Answer {
-                number: 0,
-                address: all[tag as usize % self.count],
-                algorithm: 0,
-                n: self.count as u32,
-                candidates: u64::MAX >> (64 - self.count),
-            };
+            let all = u64::MAX >> (64 - self.count);
+            return self.by_modulus(tag, self.count as u32, all);
         }
-        if n == 0 {
-            return Answer::refused(12);
-        }
-        Answer {
-            number: 0,
-            address: match best {
-                Some((node, _)) => node.address,
-                None => eligible[tag as usize % n],
-            },
-            algorithm,
-            n: n as u32,
-            candidates,
+        match best {
+            _ if n == 0 => Answer::refused(12),
+            Some((node, _)) => answer(node, algorithm, n, candidates),
+            None => self.by_modulus(tag, n, candidates),
         }
     }
 
     #[inline]
-    fn returning(&self, address: u32, algorithm: u8, preference: u16, dp: bool) -> Sent {
+    fn returning(&self, address: Address, algorithm: u8, preference: u16, dp: bool) -> Sent {
         if algorithm != 2 && algorithm != 3 {
             return Sent::refused(15);
         }
-        if address == 0 {
+        let address = Number::of(address);
+        if address.is_zero() {
             return Sent::refused(6);
         }
         let own = Sent {
