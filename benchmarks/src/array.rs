@@ -157,17 +157,19 @@ impl<N: Key> Column<N> {
             let Some(number) = N::in_row(row) else {
                 continue;
             };
-            place %= MAX_ROUTES;
-            let seen = self.numbers[place];
-            if seen != number {
-                let low = if seen < number { place + 1 } else { 0 };
-                place = self.halved::<L>(low, number);
-                if self.numbers.get(place) != Some(&number) {
-                    continue;
-                }
+            let behind = place % MAX_ROUTES;
+            let seen = self.numbers[behind];
+            if seen == number {
+                set |= 1 << behind;
+                place = behind + 1;
+                continue;
             }
-            set |= 1 << place;
-            place += 1;
+            let low = if seen < number { behind + 1 } else { 0 };
+            place = self.halved::<L>(low, number);
+            if self.numbers.get(place) == Some(&number) {
+                set |= 1 << place;
+                place += 1;
+            }
         }
         // an unused place is all ones, as an address may be too
         set & all_places(self.count)
@@ -282,31 +284,28 @@ impl Table {
         set
     }
 
-    /// The first place of the set with the greatest weight.
+    /// The first place of the set, which is not empty, with the greatest weight.
     fn heaviest(&self, set: u64, full: bool, digest: u32) -> usize {
         let fours = &self.v4.numbers[..self.v4.count.min(MAX_ROUTES)];
         let sixes = &self.v6.numbers[..self.v6.count.min(MAX_ROUTES)];
-        let mut best = Heaviest {
-            digest,
-            top: -1,
-            place: 0,
-        };
-        if full {
-            for (place, number) in fours.iter().enumerate() {
-                best.weigh(place, *number);
+        let of_four = |number: u32| octets::weight(number, digest);
+        let of_six = |number: u128| octets::weight(number as u32, digest);
+        if sixes.is_empty() {
+            return best(fours, set, full, of_four).0;
+        }
+        let low = set & all_places(fours.len());
+        let high = set & !all_places(fours.len());
+        if high == 0 {
+            return best(fours, low, full, of_four).0;
+        }
+        let (place, weight) = best(sixes, high >> fours.len(), full, of_six);
+        if low != 0 {
+            let (lower, at_least) = best(fours, low, full, of_four);
+            if at_least >= weight {
+                return lower;
             }
-            for (place, number) in sixes.iter().enumerate() {
-                best.weigh(fours.len() + place, *number as u32);
-            }
-            return best.place;
         }
-        for place in places(set & all_places(fours.len())) {
-            best.weigh(place, fours[place]);
-        }
-        for place in places(set & !all_places(fours.len())) {
-            best.weigh(place, sixes[place - fours.len()] as u32);
-        }
-        best.place
+        fours.len() + place
     }
 
     /// The address at a place among all routes.
@@ -316,24 +315,6 @@ impl Table {
             Number::V4(self.v4.numbers[place % MAX_ROUTES])
         } else {
             Number::V6(self.v6.numbers[(place - self.v4.count) % MAX_ROUTES])
-        }
-    }
-}
-
-/// The greatest weight so far, and the first place that has it.
-struct Heaviest {
-    digest: u32,
-    top: i32,
-    place: usize,
-}
-
-impl Heaviest {
-    #[inline(always)]
-    fn weigh(&mut self, place: usize, low_word: u32) {
-        let weight = octets::weight(low_word, self.digest) as i32;
-        if weight > self.top {
-            self.top = weight;
-            self.place = place;
         }
     }
 }
@@ -358,6 +339,13 @@ fn in_use(attributes: &[u32]) -> (u8, bool) {
     (algorithm_in(*first), first >> KIND_SHIFT & 1 != 0)
 }
 
+/// Whether any of these carries another algorithm.
+#[inline(always)]
+fn differ(attributes: &[u32], algorithm: u8) -> bool {
+    let other = |word: &u32| algorithm_in(*word) != algorithm;
+    attributes.iter().fold(false, |any, word| any | other(word))
+}
+
 /// The place in the set at k, counted from 0.
 fn nth(set: u64, k: u32) -> usize {
     let mut left = set;
@@ -367,41 +355,40 @@ fn nth(set: u64, k: u32) -> usize {
     left.trailing_zeros() as usize
 }
 
-/// The first place of the set, which is not empty, with the greatest score.
-fn best(words: &[u32], set: u64, score: impl Fn(u32) -> u32) -> usize {
+/// The first place of the set, which is not empty, with the greatest score, and that score. A full set has all places.
+#[inline(always)]
+fn best<N: Copy>(items: &[N], set: u64, full: bool, score: impl Fn(N) -> u32) -> (usize, u32) {
     let mut at = set.trailing_zeros() as usize;
-    let mut top = score(words[at]);
-    for place in places(set & (set - 1)) {
-        let next = score(words[place]);
+    let mut top = score(items[at]);
+    let mut keep = |place: usize| {
+        let next = score(items[place]);
         if next > top {
             top = next;
             at = place;
         }
+    };
+    if full {
+        (1..items.len()).for_each(keep);
+    } else {
+        let mut left = set & (set - 1);
+        while left != 0 {
+            keep(left.trailing_zeros() as usize);
+            left &= left - 1;
+        }
     }
-    at
+    (at, top)
 }
 
 /// The same for scores of 17 bits: over all places, the score above the place counted from the end fits 32 bits, and the greatest is taken.
 fn best_narrow(words: &[u32], set: u64, full: bool, score: impl Fn(u32) -> u32) -> usize {
     if !full {
-        return best(words, set, score);
+        return best(words, set, full, score).0;
     }
     let keys = words.iter().enumerate();
     let top = keys
         .map(|(place, word)| (score(*word) << 6 | (63 - place as u32)) as i32)
         .max();
     63 - (top.unwrap_or(63) & 63) as usize
-}
-
-/// The places of a set, rising.
-#[inline(always)]
-fn places(set: u64) -> impl Iterator<Item = usize> {
-    let mut left = set;
-    std::iter::from_fn(move || {
-        let place = left.trailing_zeros() as usize;
-        left &= left.wrapping_sub(1);
-        (place < MAX_ROUTES).then_some(place)
-    })
 }
 
 fn all_places(n: usize) -> u64 {
@@ -524,19 +511,13 @@ impl Segment for Table {
             dp,
         };
         let attributes = self.live();
-        let own_place = self.place(number).unwrap_or(MAX_ROUTES);
         let mut others = all_places(attributes.len());
-        if own_place < attributes.len() {
-            others &= !(1 << own_place);
+        let (mut before, mut after) = (attributes, &[][..]);
+        if let Some(place) = self.place(number) {
+            others &= !(1 << place);
+            (before, after) = (&attributes[..place], &attributes[place + 1..]);
         }
-        if !dp || others == 0 {
-            return own;
-        }
-        let differs = |(place, word): (usize, &u32)| {
-            (algorithm_in(*word) != algorithm) & (place != own_place)
-        };
-        let all = attributes.iter().enumerate();
-        if all.fold(false, |any, one| any | differs(one)) {
+        if !dp || others == 0 || differ(before, algorithm) || differ(after, algorithm) {
             return own;
         }
         let full = others == all_places(attributes.len());

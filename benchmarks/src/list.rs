@@ -6,11 +6,34 @@ use crate::answer::{Address, Answer, Segment, Sent, Verdict, ROW_WORDS};
 use crate::octets::{self, Election, Number, MAX_ROUTES, TOO_MANY_READY};
 use std::ptr;
 
+/// An address is two numbers, so that a walk compares one for each node: an IPv6 address has above all IPv4 ones in `v4`, and an IPv4 address zero in
+/// `v6`.
 struct Node {
     previous: *mut Node,
     next: *mut Node,
-    address: Number,
+    v4: u64,
+    v6: u128,
     election: Election,
+}
+
+const ABOVE_V4: u64 = 1 << 32;
+
+impl Node {
+    fn address(&self) -> Number {
+        if self.v4 < ABOVE_V4 {
+            Number::V4(self.v4 as u32)
+        } else {
+            Number::V6(self.v6)
+        }
+    }
+
+    #[inline]
+    fn has(&self, address: Number) -> bool {
+        match address {
+            Number::V4(number) => self.v4 == u64::from(number),
+            Number::V6(number) => self.v6 == number,
+        }
+    }
 }
 
 pub struct List {
@@ -25,33 +48,29 @@ impl List {
     #[inline]
     fn at_or_after(&self, address: Number) -> *mut Node {
         match address {
-            Number::V4(sought) => {
-                self.after_all(|one| matches!(one, Number::V4(number) if number < sought))
-            }
-            Number::V6(sought) => {
-                self.after_all(|one| !matches!(one, Number::V6(number) if number >= sought))
-            }
+            Number::V4(number) => self.after_all(|node| node.v4 < u64::from(number)),
+            Number::V6(number) => self.after_all(|node| node.v6 < number),
         }
     }
 
-    /// The first node whose address is not below, or null.
+    /// The first node that is not below, or null.
     #[inline(always)]
-    fn after_all(&self, is_below: impl Fn(Number) -> bool) -> *mut Node {
+    fn after_all(&self, is_below: impl Fn(&Node) -> bool) -> *mut Node {
         let mut node = self.head;
         // SAFETY: `head` and every `next` are null or point to a node of this list, which only `unlink` and `drop` free.
         unsafe {
-            while !node.is_null() && is_below((*node).address) {
+            while !node.is_null() && is_below(&*node) {
                 node = (*node).next;
             }
         }
         node
     }
 
-    /// The node of an address, or null.
+    /// The node of an address, which is not zero, or null.
     fn find(&self, address: Number) -> *mut Node {
         let node = self.at_or_after(address);
         // SAFETY: as in `after_all`.
-        if !node.is_null() && unsafe { (*node).address } == address {
+        if !node.is_null() && unsafe { (*node).has(address) } {
             return node;
         }
         ptr::null_mut()
@@ -66,10 +85,15 @@ impl List {
             } else {
                 (*next).previous
             };
+            let (v4, v6) = match address {
+                Number::V4(number) => (number.into(), 0),
+                Number::V6(number) => (ABOVE_V4, number),
+            };
             let node = Box::into_raw(Box::new(Node {
                 previous,
                 next,
-                address,
+                v4,
+                v6,
                 election,
             }));
             if previous.is_null() {
@@ -134,7 +158,7 @@ impl List {
 }
 
 fn answer(node: &Node, algorithm: u8, n: u32, candidates: u64) -> Answer {
-    let (family, address) = node.address.answered();
+    let (family, address) = node.address().answered();
     Answer {
         number: 0,
         family,
@@ -153,18 +177,31 @@ impl Drop for List {
     }
 }
 
-/// Whether an address is on the ready list. Routers of one site differ in their last words, which are looked at first.
-#[inline]
-fn is_ready(address: Number, ready: &[u32]) -> bool {
+/// Whether a node's address is on the ready list. Routers of one site differ in their last words, which are looked at first.
+#[inline(never)]
+fn is_ready(node: &Node, ready: &[u32]) -> bool {
     let (rows, _) = ready.as_chunks::<ROW_WORDS>();
-    match address {
-        Number::V4(number) => rows.iter().any(|row| row[1] == number && row[0] == 4),
+    match node.address() {
+        Number::V4(number) => any_row(rows, |row| row[1] == number && row[0] == 4),
         Number::V6(number) => {
-            let [a, b, c, d] = Address::v6(number).words;
-            rows.iter()
-                .any(|row| row[4] == d && *row == [6, a, b, c, d])
+            let own = Address::v6(number).row();
+            any_row(rows, |row| row[4] == own[4] && *row == own)
         }
     }
+}
+
+/// Whether a row is the one sought. The rows are taken eight at a time: the test is short.
+#[inline(always)]
+fn any_row(rows: &[[u32; ROW_WORDS]], is_it: impl Fn(&[u32; ROW_WORDS]) -> bool) -> bool {
+    let (eights, rest) = rows.as_chunks::<8>();
+    for eight in eights {
+        for row in eight {
+            if is_it(row) {
+                return true;
+            }
+        }
+    }
+    rest.iter().any(is_it)
 }
 
 /// Whether a route with this preference and DP bit is to be preferred to one of a lower address.
@@ -210,7 +247,7 @@ impl Segment for List {
         };
         let node = self.at_or_after(address);
         // SAFETY: as in `after_all`.
-        if !node.is_null() && unsafe { (*node).address } == address {
+        if !node.is_null() && unsafe { (*node).has(address) } {
             unsafe { (*node).election = election };
             return Verdict::default();
         }
@@ -263,14 +300,14 @@ impl Segment for List {
             if node.election.algorithm != algorithm || node.election.ac_df != ac_df {
                 agreed = false;
             }
-            if ac_df && !is_ready(node.address, ready) {
+            if ac_df && !is_ready(node, ready) {
                 continue;
             }
             n += 1;
             candidates |= 1 << place;
             match algorithm {
                 1 => {
-                    let weight = octets::weight(node.address.low_word(), digest);
+                    let weight = octets::weight(node.address().low_word(), digest);
                     if best.is_none_or(|(_, top)| weight > top) {
                         best = Some((node, weight));
                     }
@@ -317,7 +354,7 @@ impl Segment for List {
         let lowest = algorithm == 3;
         let mut best: Option<&Election> = None;
         for node in self.nodes() {
-            if node.address == address {
+            if node.has(address) {
                 continue;
             }
             if node.election.algorithm != algorithm {

@@ -82,15 +82,17 @@ pub fn check_route(s: &[u8]) -> Result<Number, Verdict> {
     if s[0] != 4 {
         return Err(Verdict::refused(2, 0));
     }
-    let number = match s[20] {
-        32 => Number::V4(u32::from_be_bytes(address_in(s)?)),
-        128 => Number::V6(u128::from_be_bytes(address_in(s)?)),
-        _ => return Err(Verdict::refused(3, 20)),
-    };
-    if number.is_zero() {
-        return Err(Verdict::refused(6, 21));
+    match s[20] {
+        32 => match u32::from_be_bytes(address_in(s)?) {
+            0 => Err(Verdict::refused(6, 21)),
+            number => Ok(Number::V4(number)),
+        },
+        128 => match u128::from_be_bytes(address_in(s)?) {
+            0 => Err(Verdict::refused(6, 21)),
+            number => Ok(Number::V6(number)),
+        },
+        _ => Err(Verdict::refused(3, 20)),
     }
-    Ok(number)
 }
 
 /// The address of N octets of a route, after the checks of the total, of the length octet and of the identifier.
