@@ -139,6 +139,46 @@ impl List {
         })
     }
 
+    /// One walk over all nodes: whether they carry the first's algorithm and AC-DF bit, and which are eligible. These are taken, one after the other.
+    #[inline(always)]
+    fn walk<'a>(
+        &'a self,
+        first: Election,
+        ready: Option<&[u32]>,
+        mut take: impl FnMut(&'a Node),
+    ) -> (bool, u64) {
+        let mut agreed = true;
+        let mut agree = |node: &Node| {
+            let Election {
+                algorithm, ac_df, ..
+            } = node.election;
+            agreed &= (algorithm == first.algorithm) & (ac_df == first.ac_df);
+        };
+        let Some(ready) = ready else {
+            for node in self.nodes() {
+                agree(node);
+                take(node);
+            }
+            return (agreed, self.all());
+        };
+        let mut candidates = 0;
+        let mut bit = 1u64;
+        for node in self.nodes() {
+            agree(node);
+            if is_ready(node, ready) {
+                candidates |= bit;
+                take(node);
+            }
+            bit <<= 1;
+        }
+        (agreed, candidates)
+    }
+
+    /// The set of all places of a list that is not empty.
+    fn all(&self) -> u64 {
+        u64::MAX >> (MAX_ROUTES - self.count)
+    }
+
     /// The answer under algorithm 0: the n candidates are counted along the list, and the one at tag mod n is found by a second walk.
     #[inline]
     fn by_modulus(&self, tag: u32, n: u32, candidates: u64) -> Answer {
@@ -204,7 +244,16 @@ fn any_row(rows: &[[u32; ROW_WORDS]], is_it: impl Fn(&[u32; ROW_WORDS]) -> bool)
     rest.iter().any(is_it)
 }
 
+/// Keeps the node if it is to be preferred to the best before it, which has a lower address.
+#[inline(always)]
+fn keep<'a, const LOWEST: bool>(best: &mut Option<&'a Node>, node: &'a Node) {
+    if best.is_none_or(|top| preferred(LOWEST, &node.election, &top.election)) {
+        *best = Some(node);
+    }
+}
+
 /// Whether a route with this preference and DP bit is to be preferred to one of a lower address.
+#[inline(always)]
 fn preferred(lowest: bool, challenger: &Election, holder: &Election) -> bool {
     if challenger.preference != holder.preference {
         return (challenger.preference < holder.preference) == lowest;
@@ -283,53 +332,31 @@ impl Segment for List {
         let Some(first) = self.nodes().next() else {
             return Answer::refused(12);
         };
-        let Election {
-            algorithm, ac_df, ..
-        } = first.election;
-        let digest = if algorithm == 1 {
-            octets::digest(tag, &self.esi)
-        } else {
-            0
+        let first = first.election;
+        let ready = first.ac_df.then_some(ready);
+        let mut best: Option<&Node> = None;
+        let (agreed, candidates) = match first.algorithm {
+            0 => self.walk(first, ready, |_| {}),
+            1 => {
+                let digest = octets::digest(tag, &self.esi);
+                let mut top = 0;
+                self.walk(first, ready, |node| {
+                    let weight = octets::weight(node.address().low_word(), digest);
+                    if best.is_none() || weight > top {
+                        (best, top) = (Some(node), weight);
+                    }
+                })
+            }
+            2 => self.walk(first, ready, |node| keep::<false>(&mut best, node)),
+            3 => self.walk(first, ready, |node| keep::<true>(&mut best, node)),
+            _ => (false, 0),
         };
 
-        let mut agreed = algorithm <= 3;
-        let mut n = 0;
-        let mut candidates = 0u64;
-        let mut best: Option<(&Node, u32)> = None;
-        for (place, node) in self.nodes().enumerate().take(MAX_ROUTES) {
-            if node.election.algorithm != algorithm || node.election.ac_df != ac_df {
-                agreed = false;
-            }
-            if ac_df && !is_ready(node, ready) {
-                continue;
-            }
-            n += 1;
-            candidates |= 1 << place;
-            match algorithm {
-                1 => {
-                    let weight = octets::weight(node.address().low_word(), digest);
-                    if best.is_none_or(|(_, top)| weight > top) {
-                        best = Some((node, weight));
-                    }
-                }
-                2 | 3 => {
-                    let lowest = algorithm == 3;
-                    if best.is_none_or(|(top, _)| preferred(lowest, &node.election, &top.election))
-                    {
-                        best = Some((node, 0));
-                    }
-                }
-                _ => {}
-            }
-        }
-
-        if !agreed {
-            let all = u64::MAX >> (64 - self.count);
-            return self.by_modulus(tag, self.count as u32, all);
-        }
+        let n = candidates.count_ones();
         match best {
+            _ if !agreed => self.by_modulus(tag, self.count as u32, self.all()),
             _ if n == 0 => Answer::refused(12),
-            Some((node, _)) => answer(node, algorithm, n, candidates),
+            Some(node) => answer(node, first.algorithm, n, candidates),
             None => self.by_modulus(tag, n, candidates),
         }
     }
