@@ -56,8 +56,10 @@ impl Number {
 /// The number that four words make, the high one first.
 #[inline(always)]
 pub fn wide(words: &[u32; 4]) -> u128 {
-    let [a, b, c, d] = words.map(u64::from);
-    u128::from(a << 32 | b) << 64 | u128::from(c << 32 | d)
+    // two words in a row are one load, and then change places
+    let pair = |at: usize| u64::from(words[at]) | u64::from(words[at + 1]) << 32;
+    let [high, low] = [pair(0), pair(2)].map(|pair| u128::from(pair.rotate_left(32)));
+    high << 64 | low
 }
 
 /// What a route's communities say; DP and preference are zero unless the algorithm is 2 or 3.
