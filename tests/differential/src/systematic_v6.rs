@@ -61,23 +61,53 @@ fn ready_lists() -> Vec<u8> {
     octets.extend(record::v6_query(1, &[six(2); 15]));
     octets.extend(record::withdrawal(six(2)));
     octets.extend(record::withdrawal(six(2)));
-    octets.extend(record::withdrawal(Address::V6(0)));
     octets
 }
 
-fn cut_count() -> u64 {
-    (three_routers().len() + ready_lists().len() + 2) as u64
+/// Every refusal of an IPv6 announcement, withdrawal and query.
+fn refusals() -> Vec<u8> {
+    let mut octets = three_routers();
+    for (place, value) in [(0, 5), (20, 64), (1, 23), (1, 36)] {
+        let mut route = record::route(&[0; 8], &ESI, six(3));
+        route[place] = value;
+        octets.extend(record::record(record::KIND_ANNOUNCEMENT, &route));
+    }
+    for (esi, address) in [
+        ([0x00; 10], six(3)),
+        ([0xFF; 10], Address::V6(0)),
+        (ESI, Address::V6(0)),
+        ([7; 10], Address::V6(0)),
+        ([7; 10], six(3)),
+    ] {
+        octets.extend(record::announcement(&esi, address, &[6; 9]));
+    }
+    octets.extend(record::announcement(&ESI, six(3), &[6; 9]));
+    octets.extend(record::withdrawal(Address::V6(0)));
+    octets.extend(record::withdrawal(six(3)));
+    for tag in [0, u32::MAX, 6] {
+        octets.extend(record::v6_query(tag, &[six(1)]));
+    }
+    octets
 }
 
-/// A run cut at an octet; every octet of both runs has its turn.
+fn runs_to_cut() -> [Vec<u8>; 3] {
+    [three_routers(), ready_lists(), refusals()]
+}
+
+fn cut_count() -> u64 {
+    runs_to_cut().iter().map(|run| run.len() as u64 + 1).sum()
+}
+
+/// A run cut at an octet; every octet of every run has its turn.
 fn cut(index: u64) -> Vec<u8> {
-    let (mut run, mut place) = (three_routers(), index as usize);
-    if place > run.len() {
+    let mut place = index as usize;
+    for run in runs_to_cut() {
+        if place <= run.len() {
+            return run[..place].to_vec();
+        }
         place -= run.len() + 1;
-        run = ready_lists();
     }
-    run.truncate(place);
-    run
+    Vec::new()
 }
 
 const ROUTE_LENGTH: u64 = 37;
