@@ -1,5 +1,49 @@
 //! The calls that every side of a comparison has, and their answers. Document 01, "The table", "The election", "The returning router"; document 02,
-//! M-103 for the place. The structs are laid out as in C, so that the proved calls can answer them.
+//! M-103 for the place and M-105 for addresses of both families. The structs that are answered are laid out as in C, so that the proved calls can
+//! answer them.
+
+/// The words of a row of a ready list: the family, 4 or 6, then the words of an address. A row of another family is a stranger; words after the last
+/// whole row are no row.
+pub const ROW_WORDS: usize = 5;
+
+#[derive(Clone, Copy, Debug, PartialEq, Eq)]
+pub enum Family {
+    V4,
+    V6,
+}
+
+/// An address as it is handed in: its family, and its 16 octets as words, high octet first. An IPv4 address is the first word, and those after it do
+/// not count.
+#[derive(Clone, Copy, Debug, PartialEq, Eq)]
+pub struct Address {
+    pub family: Family,
+    pub words: [u32; 4],
+}
+
+impl Address {
+    pub fn v4(number: u32) -> Address {
+        Address {
+            family: Family::V4,
+            words: [number, 0, 0, 0],
+        }
+    }
+
+    pub fn v6(number: u128) -> Address {
+        Address {
+            family: Family::V6,
+            words: [96, 64, 32, 0].map(|low| (number >> low) as u32),
+        }
+    }
+
+    /// Its row in a ready list.
+    pub fn row(self) -> [u32; ROW_WORDS] {
+        let [a, b, c, d] = self.words;
+        match self.family {
+            Family::V4 => [4, a, b, c, d],
+            Family::V6 => [6, a, b, c, d],
+        }
+    }
+}
 
 /// The answer to an announcement: 0 or a refusal number, and the place that a route's refusal speaks of.
 #[repr(C)]
@@ -9,12 +53,14 @@ pub struct Verdict {
     pub place: usize,
 }
 
-/// The whole answer of an election: 0 and the elected, or a refusal number and zeros.
+/// The whole answer of an election: 0 and the elected, or a refusal number and zeros. The family is 4 or 6; an IPv4 address is the first four octets,
+/// and then come zeros.
 #[repr(C)]
 #[derive(Clone, Copy, Debug, Default, PartialEq, Eq)]
 pub struct Answer {
     pub number: u8,
-    pub address: u32,
+    pub family: u8,
+    pub address: [u8; 16],
     pub algorithm: u8,
     pub n: u32,
     pub candidates: u64,
@@ -63,11 +109,12 @@ pub trait Segment {
 
     fn announce(&mut self, route: &[u8], communities: &[u8]) -> Verdict;
 
-    fn withdraw(&mut self, address: u32) -> u8;
+    fn withdraw(&mut self, address: Address) -> u8;
 
+    /// The ready list is a run of rows of words.
     fn elect(&self, tag: u32, ready: &[u32]) -> Answer;
 
-    fn returning(&self, address: u32, algorithm: u8, preference: u16, dp: bool) -> Sent;
+    fn returning(&self, address: Address, algorithm: u8, preference: u16, dp: bool) -> Sent;
 
     /// The digest of a tag on the segment of an identifier.
     fn digest(tag: u32, esi: &[u8; 10]) -> u32;

@@ -1,22 +1,55 @@
-//! Baseline (a): sorted arrays, updated in place. A route is an address and a word of attributes, each in an array of its own, so that a loop over one
-//! of them takes several routes at once. Unused addresses are all ones, so that halvings may go past the end. A lookup halves its range without a
-//! branch, as often as the number of routes asks for, and compares at most seven entries of 64 (document 02, M-104). An address of the ready list is
-//! first looked for behind the one before it, which is one of the seven. Shifts are block moves. Loops over the routes are without branches, for the
-//! compiler to vectorize. Nothing that an election derives is kept between calls.
+//! Baseline (a): sorted arrays, updated in place. Every IPv4 address is lower than every IPv6 one, so the addresses are two columns, one after the other:
+//! IPv4 ones as numbers of 32 bits, IPv6 ones as numbers of 128. A route's word of attributes is in an array of its own, the IPv4 routes' first, so that
+//! a loop over them takes several routes at once. Unused addresses are all ones, so that halvings may go past the end. A lookup halves its range without
+//! a branch, as often as the number of routes asks for, and compares at most seven entries of 64 (document 02, M-104). An address of the ready list is
+//! first looked for behind the one of its family before it, which is one of the seven. Shifts are block moves. Loops over the routes are without
+//! branches, for the compiler to vectorize. Nothing that an election derives is kept between calls.
 
-use crate::answer::{Answer, Segment, Sent, Verdict};
-use crate::octets::{self, Election, MAX_READY, MAX_ROUTES};
+use crate::answer::{Address, Answer, Segment, Sent, Verdict, ROW_WORDS};
+use crate::octets::{self, Election, Number, MAX_ROUTES, TOO_MANY_READY};
 
-const UNUSED: u32 = u32::MAX;
 const LAST: usize = MAX_ROUTES - 1;
-/// So many words and fewer are moved one by one, more as a block.
+/// So many items and fewer are moved one by one, more as a block.
 const FEW: usize = 4;
 
 pub struct Table {
     esi: [u8; 10],
-    count: usize,
-    addresses: [u32; MAX_ROUTES],
+    v4: Column<u32>,
+    v6: Column<u128>,
     attributes: [u32; MAX_ROUTES],
+}
+
+/// The addresses of one family as rising numbers.
+struct Column<N> {
+    count: usize,
+    numbers: [N; MAX_ROUTES],
+}
+
+/// A number that is an address.
+trait Key: Copy + Ord {
+    const UNUSED: Self;
+
+    /// The number of a row of a ready list, if the row is of this family.
+    fn in_row(row: &[u32; ROW_WORDS]) -> Option<Self>;
+}
+
+impl Key for u32 {
+    const UNUSED: u32 = u32::MAX;
+
+    #[inline(always)]
+    fn in_row(row: &[u32; ROW_WORDS]) -> Option<u32> {
+        (row[0] == 4).then_some(row[1])
+    }
+}
+
+impl Key for u128 {
+    const UNUSED: u128 = u128::MAX;
+
+    #[inline(always)]
+    fn in_row(row: &[u32; ROW_WORDS]) -> Option<u128> {
+        let [family, words @ ..] = row;
+        (*family == 6).then(|| octets::wide(words))
+    }
 }
 
 /// From the top: algorithm, AC-DF 1 bit, preference 16, DP 1.
@@ -49,78 +82,56 @@ fn lower(attributes: u32) -> u32 {
     (attributes & LOW) ^ (LOW ^ DP)
 }
 
-impl Table {
-    fn live(&self) -> (&[u32], &[u32]) {
-        let count = self.count.min(MAX_ROUTES);
-        (&self.addresses[..count], &self.attributes[..count])
-    }
+impl<N: Key> Column<N> {
+    const EMPTY: Column<N> = Column {
+        count: 0,
+        numbers: [N::UNUSED; MAX_ROUTES],
+    };
 
     /// Where the address stands, or the place at which it would. Of 64 entries at most seven are compared: six halvings, and the last one.
     #[inline(always)]
-    fn find(&self, address: u32) -> Result<usize, usize> {
+    fn find(&self, number: N) -> Result<usize, usize> {
         let mut place = match levels(self.count) {
             0 => 0,
-            1 => self.halved::<1>(0, address),
-            2 => self.halved::<2>(0, address),
-            3 => self.halved::<3>(0, address),
-            4 => self.halved::<4>(0, address),
-            5 => self.halved::<5>(0, address),
-            _ => self.halved::<6>(0, address),
+            1 => self.halved::<1>(0, number),
+            2 => self.halved::<2>(0, number),
+            3 => self.halved::<3>(0, number),
+            4 => self.halved::<4>(0, number),
+            5 => self.halved::<5>(0, number),
+            _ => self.halved::<6>(0, number),
         };
-        if place == LAST && self.addresses[LAST] < address {
+        if place == LAST && self.numbers[LAST] < number {
             place = MAX_ROUTES;
         }
-        if place < self.count && self.addresses[place % MAX_ROUTES] == address {
+        if place < self.count && self.numbers[place % MAX_ROUTES] == number {
             return Ok(place);
         }
         Err(place)
     }
 
-    /// The first place whose address is not below the one sought, by N halvings of 2^N - 1 places from `low` on. So that they end within the array, they
-    /// may start at a lower place: all addresses before `low` are below the one sought.
+    /// The first place whose number is not below the one sought, by L halvings of 2^L - 1 places from `low` on. So that they end within the array, they
+    /// may start at a lower place: all numbers before `low` are below the one sought.
     #[inline(always)]
-    fn halved<const N: u32>(&self, low: usize, address: u32) -> usize {
-        let mut place = low.min(MAX_ROUTES + 1 - (1 << N));
-        for n in (0..N).rev() {
+    fn halved<const L: u32>(&self, low: usize, number: N) -> usize {
+        let mut place = low.min(MAX_ROUTES + 1 - (1 << L));
+        for n in (0..L).rev() {
             let step = 1 << n;
-            place += step * usize::from(self.addresses[(place + step - 1) % MAX_ROUTES] < address);
+            place += step * usize::from(self.numbers[(place + step - 1) % MAX_ROUTES] < number);
         }
         place
     }
 
-    /// Puts an entry before the place. Out of line, as `remove`, so that the other ways through a call save no registers.
-    #[inline(never)]
-    fn insert(&mut self, place: usize, address: u32, attributes: u32) {
-        let count = self.count;
-        if count - place > FEW {
-            self.addresses.copy_within(place..count, place + 1);
-            self.attributes.copy_within(place..count, place + 1);
-        } else {
-            for at in (place..count).rev() {
-                self.addresses[(at + 1) % MAX_ROUTES] = self.addresses[at % MAX_ROUTES];
-                self.attributes[(at + 1) % MAX_ROUTES] = self.attributes[at % MAX_ROUTES];
-            }
-        }
-        self.addresses[place] = address;
-        self.attributes[place] = attributes;
-        self.count = count + 1;
+    #[inline(always)]
+    fn insert(&mut self, place: usize, number: N) {
+        open(&mut self.numbers, place, self.count);
+        self.numbers[place] = number;
+        self.count += 1;
     }
 
-    #[inline(never)]
+    #[inline(always)]
     fn remove(&mut self, place: usize) {
-        let count = self.count;
-        if count - place > FEW {
-            self.addresses.copy_within(place + 1..count, place);
-            self.attributes.copy_within(place + 1..count, place);
-        } else {
-            for at in place + 1..count {
-                self.addresses[(at - 1) % MAX_ROUTES] = self.addresses[at % MAX_ROUTES];
-                self.attributes[(at - 1) % MAX_ROUTES] = self.attributes[at % MAX_ROUTES];
-            }
-        }
-        self.addresses[count - 1] = UNUSED;
-        self.attributes[count - 1] = 0;
-        self.count = count - 1;
+        close(&mut self.numbers, place, self.count, N::UNUSED);
+        self.count -= 1;
     }
 
     /// The set of the places whose address is on the ready list.
@@ -137,26 +148,174 @@ impl Table {
         }
     }
 
-    /// The same, where N halvings are enough. An address is first looked for behind the one before it; what is then left has at most 63 places.
+    /// The same, where L halvings are enough. An address is first looked for behind the one before it; what is then left has at most 63 places.
     #[inline(never)]
-    fn ready_among<const N: u32>(&self, ready: &[u32]) -> u64 {
+    fn ready_among<const L: u32>(&self, ready: &[u32]) -> u64 {
         let mut set = 0;
         let mut place = 0;
-        for address in ready {
-            place %= MAX_ROUTES;
-            let seen = self.addresses[place];
-            if seen != *address {
-                let low = if seen < *address { place + 1 } else { 0 };
-                place = self.halved::<N>(low, *address);
-                if self.addresses.get(place) != Some(address) {
-                    continue;
-                }
+        for row in ready.as_chunks::<ROW_WORDS>().0 {
+            let Some(number) = N::in_row(row) else {
+                continue;
+            };
+            let behind = place % MAX_ROUTES;
+            let seen = self.numbers[behind];
+            if seen == number {
+                set |= 1 << behind;
+                place = behind + 1;
+                continue;
             }
-            set |= 1 << place;
-            place += 1;
+            let low = if seen < number { behind + 1 } else { 0 };
+            place = self.halved::<L>(low, number);
+            if self.numbers.get(place) == Some(&number) {
+                set |= 1 << place;
+                place += 1;
+            }
         }
         // an unused place is all ones, as an address may be too
         set & all_places(self.count)
+    }
+}
+
+/// Moves the items from the place on, of so many, one place up.
+#[inline(always)]
+fn open<T: Copy>(items: &mut [T; MAX_ROUTES], place: usize, count: usize) {
+    if count - place > FEW {
+        items.copy_within(place..count, place + 1);
+    } else {
+        for at in (place..count).rev() {
+            items[(at + 1) % MAX_ROUTES] = items[at % MAX_ROUTES];
+        }
+    }
+}
+
+/// Moves the items after the place, of so many, one place down; the last place gets what unused ones have.
+#[inline(always)]
+fn close<T: Copy>(items: &mut [T; MAX_ROUTES], place: usize, count: usize, unused: T) {
+    if count - place > FEW {
+        items.copy_within(place + 1..count, place);
+    } else {
+        for at in place + 1..count {
+            items[(at - 1) % MAX_ROUTES] = items[at % MAX_ROUTES];
+        }
+    }
+    items[count - 1] = unused;
+}
+
+impl Table {
+    #[inline(always)]
+    fn count(&self) -> usize {
+        self.v4.count + self.v6.count
+    }
+
+    fn live(&self) -> &[u32] {
+        &self.attributes[..self.count().min(MAX_ROUTES)]
+    }
+
+    /// Where the address stands among all routes, or none.
+    #[inline(always)]
+    fn place(&self, number: Number) -> Option<usize> {
+        match number {
+            Number::V4(number) => self.v4.find(number).ok(),
+            Number::V6(number) => {
+                let place = self.v6.find(number).ok();
+                place.map(|place| self.v4.count + place)
+            }
+        }
+    }
+
+    #[inline(always)]
+    fn put_v4(&mut self, number: u32, attributes: u32) -> Verdict {
+        match self.v4.find(number) {
+            Ok(place) => self.attributes[place % MAX_ROUTES] = attributes,
+            Err(_) if self.count() >= MAX_ROUTES => return Verdict::refused(8, 0),
+            Err(place) => self.insert_v4(place, number, attributes),
+        }
+        Verdict::default()
+    }
+
+    #[inline(always)]
+    fn put_v6(&mut self, number: u128, attributes: u32) -> Verdict {
+        match self.v6.find(number) {
+            Ok(place) => self.attributes[(self.v4.count + place) % MAX_ROUTES] = attributes,
+            Err(_) if self.count() >= MAX_ROUTES => return Verdict::refused(8, 0),
+            Err(place) => self.insert_v6(place, number, attributes),
+        }
+        Verdict::default()
+    }
+
+    /// Puts an entry before the place of its column. Out of line, as the other three, so that the other ways through a call save no registers.
+    #[inline(never)]
+    fn insert_v4(&mut self, place: usize, number: u32, attributes: u32) {
+        let count = self.count();
+        open(&mut self.attributes, place, count);
+        self.attributes[place] = attributes;
+        self.v4.insert(place, number);
+    }
+
+    #[inline(never)]
+    fn insert_v6(&mut self, place: usize, number: u128, attributes: u32) {
+        let (among_all, count) = (self.v4.count + place, self.count());
+        open(&mut self.attributes, among_all, count);
+        self.attributes[among_all] = attributes;
+        self.v6.insert(place, number);
+    }
+
+    #[inline(never)]
+    fn remove_v4(&mut self, place: usize) {
+        let count = self.count();
+        close(&mut self.attributes, place, count, 0);
+        self.v4.remove(place);
+    }
+
+    #[inline(never)]
+    fn remove_v6(&mut self, place: usize) {
+        let count = self.count();
+        close(&mut self.attributes, self.v4.count + place, count, 0);
+        self.v6.remove(place);
+    }
+
+    /// The set of the places whose address is on the ready list.
+    #[inline(always)]
+    fn ready_set(&self, ready: &[u32]) -> u64 {
+        let mut set = self.v4.ready_set(ready);
+        if self.v6.count != 0 {
+            set |= self.v6.ready_set(ready) << self.v4.count;
+        }
+        set
+    }
+
+    /// The first place of the set, which is not empty, with the greatest weight.
+    fn heaviest(&self, set: u64, full: bool, digest: u32) -> usize {
+        let fours = &self.v4.numbers[..self.v4.count.min(MAX_ROUTES)];
+        let sixes = &self.v6.numbers[..self.v6.count.min(MAX_ROUTES)];
+        let of_four = |number: u32| octets::weight(number, digest);
+        let of_six = |number: u128| octets::weight(number as u32, digest);
+        if sixes.is_empty() {
+            return best(fours, set, full, of_four).0;
+        }
+        let low = set & all_places(fours.len());
+        let high = set & !all_places(fours.len());
+        if high == 0 {
+            return best(fours, low, full, of_four).0;
+        }
+        let (place, weight) = best(sixes, high >> fours.len(), full, of_six);
+        if low != 0 {
+            let (lower, at_least) = best(fours, low, full, of_four);
+            if at_least >= weight {
+                return lower;
+            }
+        }
+        fours.len() + place
+    }
+
+    /// The address at a place among all routes.
+    #[inline(always)]
+    fn number_at(&self, place: usize) -> Number {
+        if place < self.v4.count {
+            Number::V4(self.v4.numbers[place % MAX_ROUTES])
+        } else {
+            Number::V6(self.v6.numbers[(place - self.v4.count) % MAX_ROUTES])
+        }
     }
 }
 
@@ -180,6 +339,13 @@ fn in_use(attributes: &[u32]) -> (u8, bool) {
     (algorithm_in(*first), first >> KIND_SHIFT & 1 != 0)
 }
 
+/// Whether any of these carries another algorithm.
+#[inline(always)]
+fn differ(attributes: &[u32], algorithm: u8) -> bool {
+    let other = |word: &u32| algorithm_in(*word) != algorithm;
+    attributes.iter().fold(false, |any, word| any | other(word))
+}
+
 /// The place in the set at k, counted from 0.
 fn nth(set: u64, k: u32) -> usize {
     let mut left = set;
@@ -189,19 +355,20 @@ fn nth(set: u64, k: u32) -> usize {
     left.trailing_zeros() as usize
 }
 
-/// The first place of the set with the greatest score.
-fn best(words: &[u32], set: u64, full: bool, score: impl Fn(u32) -> u32) -> usize {
+/// The first place of the set, which is not empty, with the greatest score, and that score. A full set has all places.
+#[inline(always)]
+fn best<N: Copy>(items: &[N], set: u64, full: bool, score: impl Fn(N) -> u32) -> (usize, u32) {
     let mut at = set.trailing_zeros() as usize;
-    let mut top = score(words[at]);
+    let mut top = score(items[at]);
     let mut keep = |place: usize| {
-        let next = score(words[place]);
+        let next = score(items[place]);
         if next > top {
             top = next;
             at = place;
         }
     };
     if full {
-        (1..words.len()).for_each(keep);
+        (1..items.len()).for_each(keep);
     } else {
         let mut left = set & (set - 1);
         while left != 0 {
@@ -209,13 +376,13 @@ fn best(words: &[u32], set: u64, full: bool, score: impl Fn(u32) -> u32) -> usiz
             left &= left - 1;
         }
     }
-    at
+    (at, top)
 }
 
 /// The same for scores of 17 bits: over all places, the score above the place counted from the end fits 32 bits, and the greatest is taken.
 fn best_narrow(words: &[u32], set: u64, full: bool, score: impl Fn(u32) -> u32) -> usize {
     if !full {
-        return best(words, set, full, score);
+        return best(words, set, full, score).0;
     }
     let keys = words.iter().enumerate();
     let top = keys
@@ -236,8 +403,8 @@ impl Segment for Table {
     fn empty() -> Table {
         Table {
             esi: [0; 10],
-            count: 0,
-            addresses: [UNUSED; MAX_ROUTES],
+            v4: Column::EMPTY,
+            v6: Column::EMPTY,
             attributes: [0; MAX_ROUTES],
         }
     }
@@ -245,8 +412,8 @@ impl Segment for Table {
     #[inline]
     fn fresh(&mut self, esi: &[u8]) -> u8 {
         self.esi = [0; 10];
-        self.count = 0;
-        self.addresses = [UNUSED; MAX_ROUTES];
+        self.v4 = Column::EMPTY;
+        self.v6 = Column::EMPTY;
         self.attributes = [0; MAX_ROUTES];
         if octets::is_reserved(esi) {
             return 4;
@@ -257,8 +424,8 @@ impl Segment for Table {
 
     #[inline]
     fn announce(&mut self, route: &[u8], communities: &[u8]) -> Verdict {
-        let address = match octets::check_route(route) {
-            Ok(address) => address,
+        let number = match octets::check_route(route) {
+            Ok(number) => number,
             Err(refused) => return refused,
         };
         if route[10..20] != self.esi {
@@ -269,23 +436,25 @@ impl Segment for Table {
             Err(refused) => return refused,
         };
         let attributes = attributes_of(election);
-        match self.find(address) {
-            Ok(place) => self.attributes[place % MAX_ROUTES] = attributes,
-            Err(_) if self.count >= MAX_ROUTES => return Verdict::refused(8, 0),
-            Err(place) => self.insert(place, address, attributes),
+        match number {
+            Number::V4(number) => self.put_v4(number, attributes),
+            Number::V6(number) => self.put_v6(number, attributes),
         }
-        Verdict::default()
     }
 
     #[inline]
-    fn withdraw(&mut self, address: u32) -> u8 {
-        if address == 0 {
-            return 6;
+    fn withdraw(&mut self, address: Address) -> u8 {
+        match Number::of(address) {
+            Number::V4(0) | Number::V6(0) => return 6,
+            Number::V4(number) => match self.v4.find(number) {
+                Ok(place) => self.remove_v4(place),
+                Err(_) => return 9,
+            },
+            Number::V6(number) => match self.v6.find(number) {
+                Ok(place) => self.remove_v6(place),
+                Err(_) => return 9,
+            },
         }
-        let Ok(place) = self.find(address) else {
-            return 9;
-        };
-        self.remove(place);
         0
     }
 
@@ -294,36 +463,33 @@ impl Segment for Table {
         if tag == 0 || tag == u32::MAX {
             return Answer::refused(10);
         }
-        if ready.len() > MAX_READY {
+        if ready.len() >= TOO_MANY_READY {
             return Answer::refused(11);
         }
-        let (addresses, attributes) = self.live();
+        let attributes = self.live();
         let (algorithm, ac_df) = in_use(attributes);
         let set = if ac_df {
             self.ready_set(ready)
         } else {
-            all_places(addresses.len())
+            all_places(attributes.len())
         };
         if set == 0 {
             return Answer::refused(12);
         }
         let n = set.count_ones();
-        let full = n as usize == addresses.len();
+        let full = n as usize == attributes.len();
         let place = match algorithm {
             0 if full => (tag % n) as usize,
             0 => nth(set, tag % n),
-            1 => {
-                let digest = octets::digest(tag, &self.esi);
-                best(addresses, set, full, |address| {
-                    octets::weight(address, digest)
-                })
-            }
+            1 => self.heaviest(set, full, octets::digest(tag, &self.esi)),
             2 => best_narrow(attributes, set, full, higher),
             _ => best_narrow(attributes, set, full, lower),
         };
+        let (family, address) = self.number_at(place).answered();
         Answer {
             number: 0,
-            address: addresses[place],
+            family,
+            address,
             algorithm,
             n,
             candidates: set,
@@ -331,11 +497,12 @@ impl Segment for Table {
     }
 
     #[inline]
-    fn returning(&self, address: u32, algorithm: u8, preference: u16, dp: bool) -> Sent {
+    fn returning(&self, address: Address, algorithm: u8, preference: u16, dp: bool) -> Sent {
         if algorithm != 2 && algorithm != 3 {
             return Sent::refused(15);
         }
-        if address == 0 {
+        let number = Number::of(address);
+        if number.is_zero() {
             return Sent::refused(6);
         }
         let own = Sent {
@@ -343,21 +510,17 @@ impl Segment for Table {
             preference,
             dp,
         };
-        let (addresses, attributes) = self.live();
-        let mut others = all_places(addresses.len());
-        if let Ok(place) = self.find(address) {
+        let attributes = self.live();
+        let mut others = all_places(attributes.len());
+        let (mut before, mut after) = (attributes, &[][..]);
+        if let Some(place) = self.place(number) {
             others &= !(1 << place);
+            (before, after) = (&attributes[..place], &attributes[place + 1..]);
         }
-        if !dp || others == 0 {
+        if !dp || others == 0 || differ(before, algorithm) || differ(after, algorithm) {
             return own;
         }
-        let differs = |place: usize| {
-            (algorithm_in(attributes[place]) != algorithm) & (addresses[place] != address)
-        };
-        if (0..addresses.len()).fold(false, |any, place| any | differs(place)) {
-            return own;
-        }
-        let full = others == all_places(addresses.len());
+        let full = others == all_places(attributes.len());
         let place = if algorithm == 2 {
             best_narrow(attributes, others, full, higher)
         } else {

@@ -1,6 +1,6 @@
 //! A baseline whose calls are never inlined, as the proved calls are not: each costs one call.
 
-use crate::answer::{Answer, Segment, Sent, Verdict};
+use crate::answer::{Address, Answer, Segment, Sent, Verdict};
 
 pub struct Called<T>(T);
 
@@ -20,7 +20,7 @@ impl<T: Segment> Segment for Called<T> {
     }
 
     #[inline(never)]
-    fn withdraw(&mut self, address: u32) -> u8 {
+    fn withdraw(&mut self, address: Address) -> u8 {
         self.0.withdraw(address)
     }
 
@@ -30,7 +30,7 @@ impl<T: Segment> Segment for Called<T> {
     }
 
     #[inline(never)]
-    fn returning(&self, address: u32, algorithm: u8, preference: u16, dp: bool) -> Sent {
+    fn returning(&self, address: Address, algorithm: u8, preference: u16, dp: bool) -> Sent {
         self.0.returning(address, algorithm, preference, dp)
     }
 

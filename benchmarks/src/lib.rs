@@ -2,7 +2,7 @@
 //!
 //! - `answer`: the calls that every side has, and their answers
 //! - `proved`: the proved calls, linked in
-//! - `octets`: what both baselines read from octets in the same way
+//! - `octets`: what both baselines read from octets and words in the same way
 //! - `array`: baseline (a), sorted arrays updated in place
 //! - `list`: baseline (b), a doubly linked list of heap nodes
 //! - `called`: a baseline whose calls are never inlined

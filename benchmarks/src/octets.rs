@@ -1,16 +1,66 @@
-//! What both baselines read from octets in the same way: the route's checks, the list of communities, the digest and the weight.
+//! What both baselines read from octets and words in the same way: addresses, the route's checks, the list of communities, the digest and the weight.
 //! The CRC goes octet by octet through a static table of 256 entries, in both baselines.
 
-use crate::answer::Verdict;
+use crate::answer::{Address, Family, Verdict, ROW_WORDS};
 
 pub const MAX_ROUTES: usize = 64;
 pub const MAX_READY: usize = 64;
+/// From so many words on a ready list has more rows than it may.
+pub const TOO_MANY_READY: usize = (MAX_READY + 1) * ROW_WORDS;
 
-const ROUTE_LENGTH: usize = 25;
 const MAX_COMMUNITIES: usize = 256;
 const MULTIPLIER: u32 = 1_103_515_245;
 const INCREMENT: u32 = 12_345;
 const LOW_31_BITS: u32 = 0x7FFF_FFFF;
+
+/// An address as a baseline keeps it: the number that its octets make, high octet first.
+#[derive(Clone, Copy, Debug, PartialEq, Eq)]
+pub enum Number {
+    V4(u32),
+    V6(u128),
+}
+
+impl Number {
+    #[inline(always)]
+    pub fn of(address: Address) -> Number {
+        match address.family {
+            Family::V4 => Number::V4(address.words[0]),
+            Family::V6 => Number::V6(wide(&address.words)),
+        }
+    }
+
+    #[inline]
+    pub fn is_zero(self) -> bool {
+        matches!(self, Number::V4(0) | Number::V6(0))
+    }
+
+    /// The low 32 bits, of which 31 are weighed.
+    #[inline]
+    pub fn low_word(self) -> u32 {
+        match self {
+            Number::V4(number) => number,
+            Number::V6(number) => number as u32,
+        }
+    }
+
+    /// The family and the octets that an answer has.
+    #[inline]
+    pub fn answered(self) -> (u8, [u8; 16]) {
+        match self {
+            Number::V4(number) => (4, (u128::from(number) << 96).to_be_bytes()),
+            Number::V6(number) => (6, number.to_be_bytes()),
+        }
+    }
+}
+
+/// The number that four words make, the high one first.
+#[inline(always)]
+pub fn wide(words: &[u32; 4]) -> u128 {
+    // two words in a row are one load, and then change places
+    let pair = |at: usize| u64::from(words[at]) | u64::from(words[at + 1]) << 32;
+    let [high, low] = [pair(0), pair(2)].map(|pair| u128::from(pair.rotate_left(32)));
+    high << 64 | low
+}
 
 /// What a route's communities say; DP and preference are zero unless the algorithm is 2 or 3.
 #[derive(Clone, Copy, Debug, Default, PartialEq, Eq)]
@@ -27,30 +77,39 @@ pub fn is_reserved(esi: &[u8]) -> bool {
 
 /// The originator of a route, or the first check that refuses it: its number and its place.
 #[inline]
-pub fn check_route(s: &[u8]) -> Result<u32, Verdict> {
+pub fn check_route(s: &[u8]) -> Result<Number, Verdict> {
     if s.len() < 21 {
         return Err(Verdict::refused(1, s.len()));
     }
     if s[0] != 4 {
         return Err(Verdict::refused(2, 0));
     }
-    if s[20] != 32 {
-        return Err(Verdict::refused(3, 20));
+    match s[20] {
+        32 => match u32::from_be_bytes(address_in(s)?) {
+            0 => Err(Verdict::refused(6, 21)),
+            number => Ok(Number::V4(number)),
+        },
+        128 => match u128::from_be_bytes(address_in(s)?) {
+            0 => Err(Verdict::refused(6, 21)),
+            number => Ok(Number::V6(number)),
+        },
+        _ => Err(Verdict::refused(3, 20)),
     }
-    if s.len() != ROUTE_LENGTH {
+}
+
+/// The address of N octets of a route, after the checks of the total, of the length octet and of the identifier.
+#[inline]
+fn address_in<const N: usize>(s: &[u8]) -> Result<[u8; N], Verdict> {
+    let Some(octets) = s.get(21..).and_then(|rest| rest.try_into().ok()) else {
         return Err(Verdict::refused(1, s.len()));
-    }
-    if s[1] != 23 {
+    };
+    if usize::from(s[1]) != 19 + N {
         return Err(Verdict::refused(1, 1));
     }
     if is_reserved(&s[10..20]) {
         return Err(Verdict::refused(4, 10));
     }
-    let address = u32::from_be_bytes([s[21], s[22], s[23], s[24]]);
-    if address == 0 {
-        return Err(Verdict::refused(6, 21));
-    }
-    Ok(address)
+    Ok(octets)
 }
 
 /// What a list of communities says, or the refusal 7: the election community is read, and several count as none.
@@ -97,10 +156,10 @@ pub fn digest(tag: u32, esi: &[u8; 10]) -> u32 {
     !crc & LOW_31_BITS
 }
 
-/// The weight of an address under a digest: only the low 31 bits of each product count.
+/// The weight of an address under a digest, by the address's low word: only the low 31 bits of each product count.
 #[inline]
-pub fn weight(address: u32, digest: u32) -> u32 {
-    let mixed = MULTIPLIER.wrapping_mul(address).wrapping_add(INCREMENT) ^ digest;
+pub fn weight(low_word: u32, digest: u32) -> u32 {
+    let mixed = MULTIPLIER.wrapping_mul(low_word).wrapping_add(INCREMENT) ^ digest;
     MULTIPLIER.wrapping_mul(mixed).wrapping_add(INCREMENT) & LOW_31_BITS
 }
 

@@ -1,8 +1,9 @@
 //! The proved calls, as the crate `exports` hands them to C: a slice goes over as its start and its length.
 
-use crate::answer::{Answer, Segment, Sent, Verdict};
+use crate::answer::{Address, Answer, Family, Segment, Sent, Verdict};
 
-const WORDS: usize = 139;
+/// 64 rows of five words, the family and the address; 64 words of attributes; the count; the ten octets of the identifier.
+const WORDS: usize = 395;
 
 /// The words of a table. Only the calls below write them, so they are always those of a table that the calls made: their premise (`Valid`).
 pub struct Table([u32; WORDS]);
@@ -17,7 +18,15 @@ extern "C" {
         communities: *const u8,
         communities_length: usize,
     ) -> Verdict;
-    fn segment_withdraw(t: *mut u32, t_length: usize, address: u32) -> u8;
+    fn segment_withdraw(
+        t: *mut u32,
+        t_length: usize,
+        v6: bool,
+        w0: u32,
+        w1: u32,
+        w2: u32,
+        w3: u32,
+    ) -> u8;
     fn segment_elect(
         t: *const u32,
         t_length: usize,
@@ -28,7 +37,11 @@ extern "C" {
     fn segment_returning(
         t: *const u32,
         t_length: usize,
-        address: u32,
+        v6: bool,
+        w0: u32,
+        w1: u32,
+        w2: u32,
+        w3: u32,
         algorithm: u8,
         preference: u16,
         dp: bool,
@@ -65,8 +78,10 @@ impl Segment for Table {
     }
 
     #[inline]
-    fn withdraw(&mut self, address: u32) -> u8 {
-        unsafe { segment_withdraw(self.0.as_mut_ptr(), WORDS, address) }
+    fn withdraw(&mut self, address: Address) -> u8 {
+        let v6 = address.family == Family::V6;
+        let [w0, w1, w2, w3] = address.words;
+        unsafe { segment_withdraw(self.0.as_mut_ptr(), WORDS, v6, w0, w1, w2, w3) }
     }
 
     #[inline]
@@ -75,8 +90,23 @@ impl Segment for Table {
     }
 
     #[inline]
-    fn returning(&self, address: u32, algorithm: u8, preference: u16, dp: bool) -> Sent {
-        unsafe { segment_returning(self.0.as_ptr(), WORDS, address, algorithm, preference, dp) }
+    fn returning(&self, address: Address, algorithm: u8, preference: u16, dp: bool) -> Sent {
+        let v6 = address.family == Family::V6;
+        let [w0, w1, w2, w3] = address.words;
+        unsafe {
+            segment_returning(
+                self.0.as_ptr(),
+                WORDS,
+                v6,
+                w0,
+                w1,
+                w2,
+                w3,
+                algorithm,
+                preference,
+                dp,
+            )
+        }
     }
 
     #[inline]

@@ -1,16 +1,19 @@
-//! The bench program over a baseline (document 01, "The bench program"; document 02, M-103), and the generator of a long run of records.
+//! The bench program over a baseline (document 01, "The bench program"; document 02, M-103 and M-105), and the generator of a long run of records.
 //! Blocks of 64 KiB are read and written; a record that is cut by the end of a block is kept for the next.
 
-use crate::answer::Segment;
+use crate::answer::{Address, Answer, Family, Segment, ROW_WORDS};
 use crate::random::Random;
-use crate::workload;
+use crate::workload::{self, Families};
 use std::io::{self, Read, Write};
 
 const MARK: [u8; 2] = [0xD5, 0x4F];
 const HEADER: usize = 4;
 const BLOCK: usize = 1 << 16;
 const LONGEST_RECORD: usize = HEADER + 255;
-const LONGEST_LINE: usize = 40;
+/// A query's answer of an IPv6 address has 40 characters at most, and a number is written with room for four.
+const LONGEST_LINE: usize = 44;
+/// A query lists at most 62 addresses.
+const LONGEST_LIST: usize = 62 * ROW_WORDS;
 
 /// Runs the bench program from input to output.
 pub fn run<T: Segment>(input: &mut impl Read, output: &mut impl Write) -> io::Result<()> {
@@ -58,6 +61,16 @@ fn whole_record(octets: &[u8]) -> Option<&[u8]> {
     octets.get(..HEADER + usize::from(octets[3]))
 }
 
+/// The route octets of an announcement, 37 where octet 20 is 128 and else 25, and the communities; none if there are fewer.
+#[inline]
+fn split_route(octets: &[u8]) -> Option<(&[u8], &[u8])> {
+    let length = match octets.get(20) {
+        Some(128) => 37,
+        _ => 25,
+    };
+    octets.split_at_checked(length)
+}
+
 struct Bench<T> {
     table: Option<T>,
     lines: Lines,
@@ -74,39 +87,73 @@ impl<T: Segment> Bench<T> {
             return self.first(record[2], octets);
         };
         match record[2] {
-            1 if octets.len() >= 25 => {
-                let told = table.announce(&octets[..25], &octets[25..]);
+            1 => {
+                let Some((route, communities)) = split_route(octets) else {
+                    return self.bad();
+                };
+                let told = table.announce(route, communities);
                 self.placed_line(b'a', told.number, told.place as u8);
                 true
             }
             2 if octets.len() == 4 => {
-                let number = table.withdraw(word(octets));
+                let number = table.withdraw(Address::v4(word(octets)));
                 self.line(b'w', number);
                 true
             }
             3 if !octets.is_empty() && octets.len().is_multiple_of(4) => {
-                let mut ready = [0; 64];
-                let n = octets.len() / 4 - 1;
-                for (place, four) in octets[4..].chunks_exact(4).enumerate() {
-                    ready[place] = word(four);
+                let mut ready = [0; LONGEST_LIST];
+                let rows = ready.as_chunks_mut::<ROW_WORDS>().0;
+                for (row, four) in rows.iter_mut().zip(octets[4..].chunks_exact(4)) {
+                    (row[0], row[1]) = (4, word(four));
                 }
-                let answer = table.elect(word(octets), &ready[..n]);
-                if answer.number != 0 {
-                    self.line(b'q', answer.number);
-                    return true;
-                }
-                let [a, b, c, d] = answer.address.to_be_bytes();
-                self.lines.start(b'q');
-                self.lines.number(0, b' ');
-                self.lines.number(a, b'.');
-                self.lines.number(b, b'.');
-                self.lines.number(c, b'.');
-                self.lines.number(d, b' ');
-                self.lines.number(answer.n as u8, b'\n');
+                let listed = (octets.len() / 4 - 1) * ROW_WORDS;
+                let answer = table.elect(word(octets), &ready[..listed]);
+                self.answered(&answer)
+            }
+            4 if octets.len() == 16 => {
+                let number = table.withdraw(Address {
+                    family: Family::V6,
+                    words: words(octets),
+                });
+                self.line(b'w', number);
                 true
+            }
+            5 if octets.len() % 16 == 4 => {
+                let mut ready = [0; LONGEST_LIST];
+                let rows = ready.as_chunks_mut::<ROW_WORDS>().0;
+                for (row, sixteen) in rows.iter_mut().zip(octets[4..].chunks_exact(16)) {
+                    row[0] = 6;
+                    row[1..].copy_from_slice(&words(sixteen));
+                }
+                let listed = octets.len() / 16 * ROW_WORDS;
+                let answer = table.elect(word(octets), &ready[..listed]);
+                self.answered(&answer)
             }
             _ => self.bad(),
         }
+    }
+
+    /// The line of an election; the run goes on.
+    #[inline]
+    fn answered(&mut self, answer: &Answer) -> bool {
+        if answer.number != 0 {
+            self.line(b'q', answer.number);
+            return true;
+        }
+        let lines = &mut self.lines;
+        lines.start(b'q');
+        lines.number(0, b' ');
+        if answer.family == 6 {
+            lines.hex(&answer.address, b' ');
+        } else {
+            let [a, b, c, d, ..] = answer.address;
+            lines.number(a, b'.');
+            lines.number(b, b'.');
+            lines.number(c, b'.');
+            lines.number(d, b' ');
+        }
+        lines.number(answer.n as u8, b'\n');
+        true
     }
 
     /// The first record: the text of the identifier.
@@ -170,6 +217,17 @@ impl Lines {
         self.filled += length + 1;
     }
 
+    /// Octets in hex, and the character behind them.
+    #[inline]
+    fn hex(&mut self, octets: &[u8; 16], end: u8) {
+        let room = &mut self.octets[self.filled..][..33];
+        for (pair, octet) in room.chunks_exact_mut(2).zip(octets) {
+            pair.copy_from_slice(&HEX[usize::from(*octet)]);
+        }
+        room[32] = end;
+        self.filled += 33;
+    }
+
     fn write(&mut self, output: &mut impl Write) -> io::Result<()> {
         output.write_all(&self.octets[..self.filled])?;
         self.filled = 0;
@@ -197,8 +255,26 @@ const fn decimals() -> [[u8; 4]; 256] {
     table
 }
 
+/// The two digits of each octet.
+static HEX: [[u8; 2]; 256] = hex_pairs();
+
+const fn hex_pairs() -> [[u8; 2]; 256] {
+    let digits = b"0123456789abcdef";
+    let mut table = [[0; 2]; 256];
+    let mut octet = 0;
+    while octet < 256 {
+        table[octet] = [digits[octet / 16], digits[octet % 16]];
+        octet += 1;
+    }
+    table
+}
+
 fn word(octets: &[u8]) -> u32 {
     u32::from_be_bytes([octets[0], octets[1], octets[2], octets[3]])
+}
+
+fn words(octets: &[u8]) -> [u32; 4] {
+    [0, 4, 8, 12].map(|at| word(&octets[at..]))
 }
 
 /// Where a text is wrong that says no identifier: its first wrong character, or where one is missing or too many.
@@ -232,55 +308,120 @@ fn digit(character: u8) -> Option<u8> {
 }
 
 /// A run of records, the first of them the identifier's text: of ten later ones about five are queries, three announcements and two withdrawals.
-/// Each thousand has an algorithm and an AC-DF bit of its own, so that a table agrees for a while, and then again after a change; the addresses
-/// are 72, so that a table is now and then full. Ready lists rise, from some address on and round; in one thousand of four they are scattered.
+/// Each thousand has an algorithm and an AC-DF bit of its own, so that a table agrees for a while, and then again after a change. Of four thousands two
+/// have IPv4 routers, one has IPv6 routers and one both; at its start the routers that it does not have are withdrawn. The addresses of a thousand are
+/// 72, so that a table is now and then full. Ready lists rise, from some address on and round; in one thousand of four they are scattered.
 pub fn generated(records: usize, seed: u64) -> Vec<u8> {
-    let mut random = Random(seed);
-    let addresses = workload::addresses(72, &mut random);
-    let mut rising = addresses.clone();
-    rising.sort();
-    let mut octets = Vec::new();
-    put(&mut octets, 0, b"00:11:22:33:44:55:66:77:88:99");
-    let (mut algorithm, mut ac_df, mut listed) = (0, false, &rising);
+    let mut run = Generator::new(seed);
+    put(&mut run.octets, 0, b"00:11:22:33:44:55:66:77:88:99");
     for number in 1..records {
         if number % 1000 == 1 {
-            algorithm = random.below(4) as u8;
-            ac_df = random.one_in(2);
-            listed = if random.one_in(4) {
-                &addresses
-            } else {
-                &rising
-            };
+            run.next_thousand(number / 1000);
         }
-        let address = addresses[random.below(addresses.len())];
-        match random.below(10) {
-            0..=2 => {
-                let mut payload = workload::route(&workload::ESI, address).to_vec();
-                let preference = random.word() as u16;
-                payload.extend(workload::community(
-                    algorithm,
-                    ac_df,
-                    random.one_in(2),
-                    preference,
-                ));
-                put(&mut octets, 1, &payload);
-            }
-            3..=4 => put(&mut octets, 2, &address.to_be_bytes()),
-            _ => {
-                let tag = 1 + random.below(4094) as u32;
-                let mut payload = tag.to_be_bytes().to_vec();
-                if ac_df {
-                    let from = random.below(listed.len());
-                    for place in 0..random.below(62) {
-                        let ready = listed[(from + place) % listed.len()];
-                        payload.extend(ready.to_be_bytes());
-                    }
-                }
-                put(&mut octets, 3, &payload);
-            }
+        match run.gone.pop() {
+            Some(address) => run.withdraw(address),
+            None => run.any_record(),
         }
     }
-    octets
+    run.octets
+}
+
+/// A run of records while it is written, and what the present thousand draws from.
+struct Generator {
+    random: Random,
+    v4: Vec<Address>,
+    v6: Vec<Address>,
+    addresses: Vec<Address>,
+    /// Those of the thousand before that this one does not have, and that are still to be withdrawn.
+    gone: Vec<Address>,
+    listed: Vec<Address>,
+    algorithm: u8,
+    ac_df: bool,
+    octets: Vec<u8>,
+}
+
+impl Generator {
+    fn new(seed: u64) -> Generator {
+        let mut random = Random(seed);
+        Generator {
+            v4: workload::addresses(72, Families::V4, &mut random),
+            v6: workload::addresses(72, Families::V6, &mut random),
+            random,
+            addresses: Vec::new(),
+            gone: Vec::new(),
+            listed: Vec::new(),
+            algorithm: 0,
+            ac_df: false,
+            octets: Vec::new(),
+        }
+    }
+
+    fn next_thousand(&mut self, thousand: usize) {
+        let addresses = match thousand % 4 {
+            0 | 1 => self.v4.clone(),
+            2 => [&self.v4[36..], &self.v6[36..]].concat(),
+            _ => self.v6.clone(),
+        };
+        let before = std::mem::replace(&mut self.addresses, addresses);
+        self.gone = before;
+        self.gone.retain(|one| !self.addresses.contains(one));
+        self.algorithm = self.random.below(4) as u8;
+        self.ac_df = self.random.one_in(2);
+        self.listed = self.addresses.clone();
+        if !self.random.one_in(4) {
+            workload::sort(&mut self.listed);
+        }
+    }
+
+    fn any_record(&mut self) {
+        let address = self.addresses[self.random.below(self.addresses.len())];
+        match self.random.below(10) {
+            0..=2 => self.announce(address),
+            3..=4 => self.withdraw(address),
+            _ => self.query(address.family),
+        }
+    }
+
+    fn announce(&mut self, address: Address) {
+        let mut body = workload::route(&workload::ESI, address);
+        let preference = self.random.word() as u16;
+        let dp = self.random.one_in(2);
+        body.extend(workload::community(
+            self.algorithm,
+            self.ac_df,
+            dp,
+            preference,
+        ));
+        put(&mut self.octets, 1, &body);
+    }
+
+    fn withdraw(&mut self, address: Address) {
+        let kind = match address.family {
+            Family::V4 => 2,
+            Family::V6 => 4,
+        };
+        put(&mut self.octets, kind, &workload::octets(address));
+    }
+
+    /// A query; with AC-DF it lists routers of a family, as many as a record holds or fewer.
+    fn query(&mut self, family: Family) {
+        let (kind, most) = match family {
+            Family::V4 => (3, 62),
+            Family::V6 => (5, 16),
+        };
+        let tag = 1 + self.random.below(4094) as u32;
+        let mut body = tag.to_be_bytes().to_vec();
+        if self.ac_df {
+            let listed = self.listed.iter().filter(|one| one.family == family);
+            let listed: Vec<&Address> = listed.collect();
+            let from = self.random.below(listed.len());
+            for place in 0..self.random.below(most) {
+                let ready = listed[(from + place) % listed.len()];
+                body.extend(workload::octets(*ready));
+            }
+        }
+        put(&mut self.octets, kind, &body);
+    }
 }
 
 fn put(octets: &mut Vec<u8>, kind: u8, payload: &[u8]) {

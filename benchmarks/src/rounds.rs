@@ -1,8 +1,8 @@
 //! The rounds of calls that are counted, timed and compared, over any side. What a round is handed goes through `black_box`, and every answer goes to
 //! a hearer: one keeps them all, for the comparison of the sides; the other only sees that the compiler leaves none out.
 
-use crate::answer::Segment;
-use crate::workload::{Run, ESI};
+use crate::answer::{Address, Segment};
+use crate::workload::{self, Families, Run, ESI};
 use std::fmt::Debug;
 use std::hint::black_box;
 
@@ -17,11 +17,19 @@ pub enum Work {
     /// A round: the next address of the runs is withdrawn, and announced again.
     Again { runs: Vec<Run> },
     /// A round: the withdrawal of the next of `addresses`, none of which is present.
-    Withdraw { runs: Vec<Run>, addresses: Vec<u32> },
-    /// A round: the election for the next tag, from 1 on.
+    Withdraw {
+        runs: Vec<Run>,
+        addresses: Vec<Address>,
+    },
+    /// A round: the election for the next tag, from 1 on. The ready list is rows of words.
     Elect { runs: Vec<Run>, ready: Vec<u32> },
-    /// A round: what the router of the next address, from 1 on, sends when it comes back with a preference of 40,000 and DP set.
-    Returning { runs: Vec<Run>, algorithm: u8 },
+    /// A round: what the router of the next address, from 1 on, sends when it comes back with a preference of 40,000 and DP set. In a mixed table they
+    /// are of either family in turn.
+    Returning {
+        runs: Vec<Run>,
+        families: Families,
+        algorithm: u8,
+    },
     /// A round: the digest of the next tag, from 1 on.
     Digest,
 }
@@ -108,11 +116,16 @@ pub fn rounds<T: Segment>(work: &Work, rounds: u32, hearer: &mut impl Hearer) {
                 hearer.hear(table.elect(black_box(tag), black_box(ready)));
             }
         }
-        Work::Returning { runs, algorithm } => {
+        Work::Returning {
+            runs,
+            families,
+            algorithm,
+        } => {
             let table: T = loaded(runs);
-            for address in 1..=rounds {
-                let (address, algorithm) = black_box((address, *algorithm));
+            let addresses = coming_back(*families);
+            for address in addresses.iter().cycle().take(rounds as usize) {
                 let (preference, dp) = black_box((40_000, true));
+                let (address, algorithm) = (*black_box(address), black_box(*algorithm));
                 hearer.hear(table.returning(address, algorithm, preference, dp));
             }
         }
@@ -124,7 +137,17 @@ pub fn rounds<T: Segment>(work: &Work, rounds: u32, hearer: &mut impl Hearer) {
     }
 }
 
+/// Addresses that no table has: 0.0.0.1 or ::1 and so on.
+fn coming_back(families: Families) -> Vec<Address> {
+    let address = |number: u32| match families {
+        Families::Mixed if number % 2 == 0 => Address::v6(number.into()),
+        Families::V6 => Address::v6(number.into()),
+        _ => Address::v4(number),
+    };
+    (1..=192).map(address).collect()
+}
+
 fn close(table: &impl Segment, runs: &[Run], hearer: &mut impl Hearer) {
-    let ready: Vec<u32> = runs.iter().map(|run| run.address).collect();
-    hearer.hear(table.elect(1, &ready));
+    let addresses: Vec<Address> = runs.iter().map(|run| run.address).collect();
+    hearer.hear(table.elect(1, &workload::rows(&addresses)));
 }

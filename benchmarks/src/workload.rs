@@ -1,26 +1,52 @@
-//! Routes, communities and ready lists, the same in every run. Addresses are 10.x.y.z, scattered and handed over in no order.
+//! Routes, communities and ready lists, the same in every run. IPv4 addresses are 10.x.y.z and IPv6 ones 2001:db8::x:y, scattered in the low 24 bits and
+//! handed over in no order.
 
+use crate::answer::{Address, Family};
 use crate::random::Random;
 
 pub const ESI: [u8; 10] = [0x00, 0x11, 0x22, 0x33, 0x44, 0x55, 0x66, 0x77, 0x88, 0x99];
+
+/// Which addresses routers have; of a mixed table's every other one is IPv6.
+#[derive(Clone, Copy, Debug, PartialEq, Eq, PartialOrd, Ord)]
+pub enum Families {
+    V4,
+    V6,
+    Mixed,
+}
 
 /// An announcement: a route with one community, and the address that the route has. They are vectors, so that no side knows their lengths beforehand.
 #[derive(Clone)]
 pub struct Run {
     pub route: Vec<u8>,
     pub communities: Vec<u8>,
-    pub address: u32,
+    pub address: Address,
 }
 
-/// The 25 octets of a route.
-pub fn route(esi: &[u8; 10], address: u32) -> [u8; 25] {
-    let mut octets = [0; 25];
-    octets[0] = 4;
-    octets[1] = 23;
-    octets[10..20].copy_from_slice(esi);
-    octets[20] = 32;
-    octets[21..].copy_from_slice(&address.to_be_bytes());
-    octets
+/// The octets of an address, 4 or 16.
+pub fn octets(address: Address) -> Vec<u8> {
+    let octets: Vec<u8> = address
+        .words
+        .iter()
+        .flat_map(|word| word.to_be_bytes())
+        .collect();
+    match address.family {
+        Family::V4 => octets[..4].to_vec(),
+        Family::V6 => octets,
+    }
+}
+
+/// The octets of a route, 25 or 37.
+pub fn route(esi: &[u8; 10], address: Address) -> Vec<u8> {
+    let (rest, bits) = match address.family {
+        Family::V4 => (23, 32),
+        Family::V6 => (35, 128),
+    };
+    let mut route = vec![4, rest];
+    route.extend([0; 8]);
+    route.extend(esi);
+    route.push(bits);
+    route.extend(octets(address));
+    route
 }
 
 /// The 8 octets of an election community.
@@ -30,11 +56,21 @@ pub fn community(algorithm: u8, ac_df: bool, dp: bool, preference: u16) -> [u8; 
     [6, 6, algorithm, bits, 0, 0, high, low]
 }
 
-/// Different addresses below 10.0.0.0/8; another seed gives others.
-pub fn addresses(n: usize, random: &mut Random) -> Vec<u32> {
-    let mut addresses: Vec<u32> = Vec::new();
+/// Different addresses below 10.0.0.0/8 and 2001:db8::/104; another seed gives others.
+pub fn addresses(n: usize, families: Families, random: &mut Random) -> Vec<Address> {
+    let mut addresses: Vec<Address> = Vec::new();
     while addresses.len() < n {
-        let address = (10 << 24) | (1 + random.below(0xFF_FFFE) as u32);
+        let low = 1 + random.below(0xFF_FFFE) as u32;
+        let is_v6 = match families {
+            Families::V4 => false,
+            Families::V6 => true,
+            Families::Mixed => addresses.len() % 2 == 1,
+        };
+        let address = if is_v6 {
+            Address::v6(0x2001_0DB8 << 96 | u128::from(low))
+        } else {
+            Address::v4((10 << 24) | low)
+        };
         if !addresses.contains(&address) {
             addresses.push(address);
         }
@@ -42,16 +78,26 @@ pub fn addresses(n: usize, random: &mut Random) -> Vec<u32> {
     addresses
 }
 
+/// Sorts addresses as a table has them: IPv4 before IPv6, and then by their numbers.
+pub fn sort(addresses: &mut [Address]) {
+    addresses.sort_by_key(|address| address.row());
+}
+
+/// A ready list of addresses.
+pub fn rows(addresses: &[Address]) -> Vec<u32> {
+    addresses.iter().flat_map(|address| address.row()).collect()
+}
+
 /// The announcements of some addresses on a segment, all under one algorithm and one AC-DF bit; preferences and DP bits differ.
 pub fn runs(
     esi: &[u8; 10],
-    addresses: &[u32],
+    addresses: &[Address],
     algorithm: u8,
     ac_df: bool,
     random: &mut Random,
 ) -> Vec<Run> {
-    let run = |address: &u32| Run {
-        route: route(esi, *address).to_vec(),
+    let run = |address: &Address| Run {
+        route: route(esi, *address),
         communities: community(algorithm, ac_df, random.one_in(2), random.word() as u16).to_vec(),
         address: *address,
     };

@@ -1,9 +1,11 @@
 //! Every side against the reference of tests/: the same random calls, the same answers, call by call.
 
-use benchmarks::answer::{Answer, Segment, Sent, Verdict};
+use benchmarks::answer::{Address, Answer, Family, Segment, Sent, Verdict};
 use benchmarks::random::Random;
 use benchmarks::{array, list, proved, records, workload};
+use reference::address;
 use reference::election;
+use reference::hrw::digest;
 use reference::refusal::answer_number;
 use reference::returning::{advertise, Advertised};
 use reference::route;
@@ -12,12 +14,26 @@ use reference::table::Table;
 const SEEDS: u64 = 400;
 const CALLS: usize = 600;
 
+/// An address as the reference has it.
+fn theirs(address: Address) -> address::Address {
+    address::Address::from_row(&address.row()).expect("a family")
+}
+
+/// An address of the reference as it is handed in.
+fn ours(address: address::Address) -> Address {
+    match address {
+        address::Address::V4(number) => Address::v4(number),
+        address::Address::V6(number) => Address::v6(number),
+    }
+}
+
 /// The reference's election as the whole answer.
 fn elect(table: &Table, tag: u32, ready: &[u32]) -> Answer {
-    match election::elect(table, tag, ready) {
+    match election::elect_rows(table, tag, ready) {
         Ok(elected) => Answer {
             number: 0,
-            address: elected.address,
+            family: elected.address.family(),
+            address: elected.address.sixteen(),
             algorithm: elected.algorithm,
             n: elected.count,
             candidates: elected.candidates,
@@ -26,8 +42,9 @@ fn elect(table: &Table, tag: u32, ready: &[u32]) -> Answer {
     }
 }
 
-fn returning(table: &Table, address: u32, algorithm: u8, preference: u16, dp: bool) -> Sent {
-    match advertise(table, address, algorithm, Advertised { preference, dp }) {
+fn returning(table: &Table, address: Address, algorithm: u8, preference: u16, dp: bool) -> Sent {
+    let own = Advertised { preference, dp };
+    match advertise(table, theirs(address), algorithm, own) {
         Ok(sent) => Sent {
             number: 0,
             preference: sent.preference,
@@ -41,7 +58,7 @@ fn returning(table: &Table, address: u32, algorithm: u8, preference: u16, dp: bo
 struct Pool {
     random: Random,
     esi: [u8; 10],
-    addresses: Vec<u32>,
+    addresses: Vec<Address>,
     algorithm: u8,
     ac_df: bool,
     stray: usize,
@@ -55,13 +72,7 @@ impl Pool {
             1 => [0xFF; 10],
             _ => random.octets(),
         };
-        let mut addresses = vec![0, 1, u32::MAX];
-        let size = [1, 3, 8, 70][random.below(4)];
-        addresses.extend((0..size).map(|_| random.word() as u32));
-        // addresses that tie under algorithm 1
-        addresses.extend((0..size / 2).map(|_| random.word() as u32));
-        let twins: Vec<u32> = addresses.iter().map(|address| address ^ 1 << 31).collect();
-        addresses.extend(twins.iter().take(size / 4));
+        let addresses = addresses(&mut random);
         Pool {
             esi,
             addresses,
@@ -72,20 +83,27 @@ impl Pool {
         }
     }
 
-    fn address(&mut self) -> u32 {
-        self.addresses[self.random.below(self.addresses.len())]
+    /// An address of the pool. In an IPv4 one the words after the first may be anything.
+    fn address(&mut self) -> Address {
+        let mut address = self.addresses[self.random.below(self.addresses.len())];
+        if address.family == Family::V4 && self.random.one_in(2) {
+            address.words[1..].fill_with(|| self.random.word() as u32);
+        }
+        address
     }
 
     /// A route that is right most times, and otherwise has one octet or its length changed.
     fn route(&mut self) -> Vec<u8> {
         let address = self.address();
-        let mut route = workload::route(&self.esi, address).to_vec();
+        let mut route = workload::route(&self.esi, address);
         if self.random.one_in(12) {
-            match self.random.below(3) {
-                0 => route.truncate(self.random.below(26)),
+            match self.random.below(5) {
+                0 => route.truncate(self.random.below(38)),
                 1 => route.push(0),
+                2 => route[20] = [32, 128, 64][self.random.below(3)],
+                3 => route[1] = [23, 35, 29][self.random.below(3)],
                 _ => {
-                    let place = self.random.below(25);
+                    let place = self.random.below(route.len());
                     route[place] = self.random.octets::<1>()[0];
                 }
             }
@@ -129,10 +147,24 @@ impl Pool {
         list
     }
 
+    /// A ready list: rows of the pool's addresses, some of no family, and sometimes words after the last.
     fn ready(&mut self) -> Vec<u32> {
-        let longest = [2, 64, 66][self.random.below(3)];
+        let longest = [2, 64, 67][self.random.below(3)];
         let n = self.random.below(longest);
-        (0..n).map(|_| self.address()).collect()
+        let mut words: Vec<u32> = (0..n).flat_map(|_| self.row()).collect();
+        if self.random.one_in(3) {
+            let tail = self.row();
+            words.extend(&tail[..self.random.below(5)]);
+        }
+        words
+    }
+
+    fn row(&mut self) -> [u32; 5] {
+        let mut row = self.address().row();
+        if self.random.one_in(10) {
+            row[0] = [0, 1, 5, 7, 10, 4 << 24, u32::MAX][self.random.below(7)];
+        }
+        row
     }
 
     fn tag(&mut self) -> u32 {
@@ -145,14 +177,49 @@ impl Pool {
     }
 }
 
+/// A pool of IPv4 addresses, of IPv6 ones or of both, with twins that tie under algorithm 1 and addresses of one family that have the octets of one
+/// of the other.
+fn addresses(random: &mut Random) -> Vec<Address> {
+    let size = [1, 3, 8, 70][random.below(4)];
+    let mut numbers = vec![0, 1, u32::MAX];
+    numbers.extend((0..size).map(|_| random.word() as u32));
+    let twins: Vec<u32> = numbers.iter().map(|number| number ^ 1 << 31).collect();
+    numbers.extend(twins.iter().take(size / 4));
+    let v4 = numbers.iter().map(|number| Address::v4(*number));
+    let v6 = numbers.iter().map(|number| sixteen_octets(random, *number));
+    let v6: Vec<Address> = v6.chain([Address::v6(u128::MAX)]).collect();
+    match random.below(4) {
+        0 => v4.collect(),
+        1 => v6,
+        _ => {
+            let mut both: Vec<Address> = v4.chain(v6).collect();
+            random.shuffle(&mut both);
+            both.truncate(size + 10);
+            both
+        }
+    }
+}
+
+/// An IPv6 address with the octets of an IPv4 one: at its end, mapped, at its start, or below anything.
+fn sixteen_octets(random: &mut Random, number: u32) -> Address {
+    let low = u128::from(number);
+    Address::v6(match random.below(5) {
+        0 => low,
+        1 => 0xFFFF << 32 | low,
+        2 => low << 96,
+        3 => 0x2001_0DB8 << 96 | low,
+        _ => u128::from(random.word()) << 64 | u128::from(random.word() as u32) << 32 | low,
+    })
+}
+
 fn same_as_the_reference<T: Segment>() {
-    let (mut elections, mut full) = (0, 0);
+    let (mut elections, mut full) = ([0; 2], 0);
     for seed in 0..SEEDS {
         let mut pool = Pool::new(seed);
-        let mut ours = T::empty();
-        let (answer, mut theirs) = Table::fresh(&pool.esi);
+        let mut side = T::empty();
+        let (answer, mut reference) = Table::fresh(&pool.esi);
         assert_eq!(
-            ours.fresh(&pool.esi),
+            side.fresh(&pool.esi),
             answer_number(&answer),
             "fresh, seed {seed}"
         );
@@ -162,45 +229,56 @@ fn same_as_the_reference<T: Segment>() {
                 0..=3 => {
                     let (route, communities) = (pool.route(), pool.communities());
                     let told = Verdict {
-                        number: answer_number(&theirs.announce(&route, &communities)),
+                        number: answer_number(&reference.announce(&route, &communities)),
                         place: route::place(&route),
                     };
-                    assert_eq!(ours.announce(&route, &communities), told, "{place}");
+                    assert_eq!(side.announce(&route, &communities), told, "{place}");
                     full += usize::from(told.number == 8);
                 }
                 4 => {
                     let address = pool.address();
-                    let number = answer_number(&theirs.withdraw(address));
-                    assert_eq!(ours.withdraw(address), number, "{place}");
+                    let number = answer_number(&reference.withdraw(theirs(address)));
+                    assert_eq!(side.withdraw(address), number, "{place}");
                 }
                 5 | 6 => {
                     let (tag, ready) = (pool.tag(), pool.ready());
-                    let answer = elect(&theirs, tag, &ready);
-                    assert_eq!(ours.elect(tag, &ready), answer, "{place}");
-                    elections += usize::from(answer.number == 0);
+                    let answer = elect(&reference, tag, &ready);
+                    assert_eq!(side.elect(tag, &ready), answer, "{place}");
+                    elections[0] += usize::from(answer.family == 4);
+                    elections[1] += usize::from(answer.family == 6);
                 }
                 _ => {
                     let (address, algorithm) = (pool.address(), pool.random.below(5) as u8);
                     let (preference, dp) = (pool.random.word() as u16, !pool.random.one_in(4));
-                    let sent = returning(&theirs, address, algorithm, preference, dp);
-                    let own = ours.returning(address, algorithm, preference, dp);
+                    let sent = returning(&reference, address, algorithm, preference, dp);
+                    let own = side.returning(address, algorithm, preference, dp);
                     assert_eq!(own, sent, "{place}");
                 }
             }
-            let all: Vec<u32> = theirs.entries().iter().map(|entry| entry.address).collect();
+            let entries = reference.entries().iter();
+            let all: Vec<Address> = entries.map(|entry| ours(entry.address)).collect();
+            let all = workload::rows(&all);
             assert_eq!(
-                ours.elect(1, &all),
-                elect(&theirs, 1, &all),
+                side.elect(1, &all),
+                elect(&reference, 1, &all),
                 "after {place}"
             );
         }
         for _ in 0..20 {
             let tag = pool.tag();
-            let digest = reference::hrw::digest(tag, theirs.esi());
-            assert_eq!(T::digest(tag, theirs.esi()), digest, "digest, seed {seed}");
+            let digest = digest(tag, reference.esi());
+            assert_eq!(
+                T::digest(tag, reference.esi()),
+                digest,
+                "digest, seed {seed}"
+            );
         }
     }
-    assert!(elections > 10_000, "only {elections} accepted elections");
+    let enough = elections.iter().all(|count| *count > 5_000);
+    assert!(
+        enough,
+        "only {elections:?} elections of IPv4 and IPv6 routers"
+    );
     assert!(full > 100, "only {full} announcements to a full table");
 }
 
@@ -219,22 +297,34 @@ fn list_is_right() {
     same_as_the_reference::<list::List>();
 }
 
-/// Two routes that tie under algorithm 1: the lower address wins on every side.
+/// Routes of both families that tie under algorithm 1: the lowest address wins on every side.
 #[test]
-fn ties_go_to_the_lower_address() {
-    fn winner<T: Segment>() -> u32 {
+fn ties_go_to_the_lowest_address() {
+    fn winner<T: Segment>(addresses: &[Address]) -> (u8, [u8; 16]) {
         let mut table = T::empty();
         assert_eq!(table.fresh(&workload::ESI), 0);
-        for address in [0x8A00_0001, 0x0A00_0001] {
-            let route = workload::route(&workload::ESI, address);
+        for address in addresses {
+            let route = workload::route(&workload::ESI, *address);
             let community = workload::community(1, false, false, 0);
             assert_eq!(table.announce(&route, &community), Verdict::default());
         }
-        table.elect(7, &[]).address
+        let answer = table.elect(7, &[]);
+        (answer.family, answer.address)
     }
-    assert_eq!(winner::<proved::Table>(), 0x0A00_0001);
-    assert_eq!(winner::<array::Table>(), 0x0A00_0001);
-    assert_eq!(winner::<list::List>(), 0x0A00_0001);
+    let tied = [
+        Address::v6(0xFFFF_8A00_0001),
+        Address::v6(0x0A00_0001),
+        Address::v4(0x8A00_0001),
+        Address::v4(0x0A00_0001),
+    ];
+    // each is lower than those before it
+    let lowest = tied.map(theirs);
+    for n in 1..=tied.len() {
+        let expected = (lowest[n - 1].family(), lowest[n - 1].sixteen());
+        assert_eq!(winner::<proved::Table>(&tied[..n]), expected);
+        assert_eq!(winner::<array::Table>(&tied[..n]), expected);
+        assert_eq!(winner::<list::List>(&tied[..n]), expected);
+    }
 }
 
 /// The bench program over each baseline prints what the reference's prints.

@@ -1,9 +1,13 @@
 #!/usr/bin/env python3
 """Checks HRW elections of a bench program: check.py PROGRAM
 
-A second, independent computation of document 01's algorithm 1. It makes runs in which all
-routes carry algorithm 1, computes each elected address and N itself (the CRC-32 is that of
-zlib), and compares the program's whole output. The exit status is 1 on a difference.
+A second, independent computation of document 01's algorithm 1, with addresses of both families
+(document 02, M-105). It makes runs in which all routes carry algorithm 1, computes each elected
+address and N itself (the CRC-32 is that of zlib, the weights are whole numbers of any length), and
+compares the program's whole output. The exit status is 1 on a difference.
+
+An address is a pair of its family, 4 or 6, and its number; pairs stand in the order of the house
+rule, every IPv4 address before every IPv6 one.
 """
 
 import random
@@ -11,11 +15,15 @@ import subprocess
 import sys
 import zlib
 
-RUNS = 500
+RUNS = 800
 QUERIES_PER_RUN = 12
 MULTIPLIER = 1103515245
 INCREMENT = 12345
 TIME_LIMIT_SECONDS = 30
+# By family: the octets of an address, the kind of a query, and the most addresses that one lists.
+LENGTH = {4: 4, 6: 16}
+QUERY_KIND = {4: 3, 6: 5}
+MOST_READY = {4: 62, 6: 15}
 
 
 def digest(tag, esi):
@@ -23,20 +31,30 @@ def digest(tag, esi):
     return zlib.crc32(tag.to_bytes(4, "big") + esi) % 2**31
 
 
-def weight(address, digest_value):
-    inner = (MULTIPLIER * address + INCREMENT) ^ digest_value
+def weight(number, digest_value):
+    """The formula over the whole number of an address, of 32 or of 128 bits."""
+    inner = (MULTIPLIER * number + INCREMENT) ^ digest_value
     return (MULTIPLIER * inner + INCREMENT) % 2**31
 
 
 def elect(addresses, tag, esi):
     """The address of greatest weight; of equal weights the lowest address."""
     value = digest(tag, esi)
-    best = max(weight(address, value) for address in addresses)
-    return min(address for address in addresses if weight(address, value) == best)
+    best = max(weight(number, value) for _, number in addresses)
+    return min(address for address in addresses if weight(address[1], value) == best)
 
 
-def dotted(address):
-    return ".".join(str(octet) for octet in address.to_bytes(4, "big"))
+def octets_of(address):
+    """The octets of an address, 4 or 16."""
+    family, number = address
+    return number.to_bytes(LENGTH[family], "big")
+
+
+def printed(address):
+    """Dotted decimals, or 32 lower-case hex digits."""
+    if address[0] == 6:
+        return octets_of(address).hex()
+    return ".".join(str(octet) for octet in octets_of(address))
 
 
 def record(kind, body):
@@ -44,14 +62,17 @@ def record(kind, body):
 
 
 def announcement(esi, address, ac_df):
-    route = bytes([4, 23]) + bytes(8) + esi + bytes([32]) + address.to_bytes(4, "big")
+    octets = octets_of(address)
+    rest = bytes(8) + esi + bytes([8 * len(octets)]) + octets
+    route = bytes([4, len(rest)]) + rest
     capability = 0x40 if ac_df else 0x00
     return record(1, route + bytes([6, 6, 1, capability, 0, 0, 0, 0]))
 
 
-def query(tag, ready):
-    numbers = [tag] + ready
-    return record(3, b"".join(number.to_bytes(4, "big") for number in numbers))
+def query(family, tag, ready):
+    """A query that lists ready routers of one family: kind 3 or kind 5."""
+    body = tag.to_bytes(4, "big") + b"".join(octets_of(address) for address in ready)
+    return record(QUERY_KIND[family], body)
 
 
 def some_esi(source):
@@ -62,17 +83,33 @@ def some_esi(source):
             return esi
 
 
-def some_addresses(source):
-    """Up to 64 different addresses; in half of the runs some tie in the low 31 bits."""
-    count = source.choice([1, 2, 3, 5, 8, 20, 64])
+def some_numbers(source, count):
+    """Different numbers of 32 bits; in half of the runs some tie in the low 31 bits."""
     if source.random() < 0.5:
-        addresses = {source.randrange(1, 2**32) for _ in range(count)}
+        numbers = {source.randrange(1, 2**32) for _ in range(count)}
     else:
         first = source.randrange(1, 2**31 - 64)
-        addresses = {first + step for step in range(count)}
+        numbers = {first + step for step in range(count)}
     if source.random() < 0.5:
-        addresses |= {address ^ 2**31 for address in list(addresses)}
-    addresses = [address for address in addresses if address != 0]
+        numbers |= {number ^ 2**31 for number in list(numbers)}
+    return numbers - {0}
+
+
+def ipv6_of(source, number):
+    """An IPv6 address with the low 32 bits of a number, under some upper part."""
+    upper = [0, 0xFFFF, 0x20010DB8 << 64, number << 64, source.getrandbits(96), 2**96 - 1]
+    return (6, source.choice(upper) << 32 | number)
+
+
+def some_addresses(source):
+    """Up to 64 different addresses: all IPv4, all IPv6, both, or each number in both families."""
+    count = source.choice([1, 2, 3, 5, 8, 20, 64])
+    numbers = some_numbers(source, count)
+    fours = {(4, number) for number in numbers}
+    sixes = {ipv6_of(source, number) for number in numbers}
+    both = {address for pair in zip(fours, sixes) for address in pair}
+    mixed = {source.choice(pair) for pair in zip(fours, sixes)}
+    addresses = sorted(source.choice([fours, sixes, both, mixed]))
     source.shuffle(addresses)
     return addresses[:64]
 
@@ -81,12 +118,14 @@ def some_tag(source):
     return source.choice([source.randint(1, 4094), source.randint(1, 2**32 - 2)])
 
 
-def some_ready(source, addresses):
-    """A part of the addresses, with a stranger and a repeat."""
-    ready = [address for address in addresses if source.random() < 0.5]
-    ready += [source.randrange(2**32)] + ready[:1]
+def some_ready(source, addresses, family):
+    """A part of the addresses of a family, with strangers and a repeat. One stranger is the number
+    of an address of the other family."""
+    ready = [address for address in addresses if address[0] == family and source.random() < 0.5]
+    other = source.choice(addresses)[1] % 2**32
+    ready += [(family, source.getrandbits(8 * LENGTH[family])), (family, other)] + ready[:1]
     source.shuffle(ready)
-    return ready[:62]
+    return ready[: MOST_READY[family]]
 
 
 def answer(addresses, ac_df, tag, ready, esi):
@@ -94,7 +133,7 @@ def answer(addresses, ac_df, tag, ready, esi):
     eligible = [address for address in addresses if not ac_df or address in ready]
     if not eligible:
         return "q 12"
-    return f"q 0 {dotted(elect(eligible, tag, esi))} {len(eligible)}"
+    return f"q 0 {printed(elect(eligible, tag, esi))} {len(eligible)}"
 
 
 def make_run(source):
@@ -108,8 +147,9 @@ def make_run(source):
         octets += announcement(esi, address, ac_df)
         lines.append("a 0")
     for _ in range(QUERIES_PER_RUN):
-        tag, ready = some_tag(source), some_ready(source, addresses)
-        octets += query(tag, ready)
+        tag, family = some_tag(source), source.choice([4, 6])
+        ready = some_ready(source, addresses, family)
+        octets += query(family, tag, ready)
         lines.append(answer(addresses, ac_df, tag, ready, esi))
     return octets, "".join(line + "\n" for line in lines)
 
@@ -121,6 +161,8 @@ def own_values_hold():
         and weight(0, 0) == 1406932606
         and weight(0, 12345) == 12345
         and weight(0x0A000001, 0) == weight(0x8A000001, 0)
+        and weight(0x0A000001, 5) == weight(0xFFFF0A000001, 5)
+        and weight(0x0A000001, 5) == weight((2**97 - 1) << 31 | 0x0A000001, 5)
     )
 
 

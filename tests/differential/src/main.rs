@@ -1,14 +1,16 @@
-//! The differential test of two bench programs: `differential REFERENCE TESTED`.
+//! The differential test of two bench programs: `differential REFERENCE TESTED [FAMILY..]`.
 //!
 //! Many thousands of inputs are made from fixed seeds; both programs run on each of them and
-//! their outputs must be equal octet by octet. On the first difference the seed, the input and
-//! both outputs are printed and the status is 1. `differential --input FAMILY INDEX` writes one
-//! input to standard output.
+//! their outputs must be equal octet by octet. With families named, only their inputs are run. On
+//! the first difference the seed, the input and both outputs are printed and the status is 1.
+//! `differential --input FAMILY INDEX` writes one input to standard output, `differential --list`
+//! the names of the families.
 //!
 //! The two programs are taken as they are: nothing here shares code with either.
 
 #![forbid(unsafe_code)]
 
+mod pools;
 mod random;
 mod record;
 mod report;
@@ -16,6 +18,7 @@ mod runner;
 mod seeded;
 mod segment;
 mod systematic;
+mod systematic_v6;
 
 use random::seed_of;
 use runner::Slot;
@@ -60,9 +63,14 @@ fn all_families() -> Vec<Family> {
             is_seeded,
         }
     };
-    let ranges = systematic::families().into_iter().map(family(false));
+    let ranges = systematic::families().into_iter();
+    let v6_ranges = systematic_v6::families().into_iter();
     let seeded = seeded::families().into_iter().map(family(true));
-    ranges.chain(seeded).collect()
+    ranges
+        .chain(v6_ranges)
+        .map(family(false))
+        .chain(seeded)
+        .collect()
 }
 
 /// The two programs, the inputs still to run, and what has been found.
@@ -78,8 +86,7 @@ struct Comparison {
 }
 
 impl Comparison {
-    fn new(reference: &str, tested: &str) -> Comparison {
-        let families = all_families();
+    fn new(reference: &str, tested: &str, families: Vec<Family>) -> Comparison {
         let jobs = families
             .iter()
             .enumerate()
@@ -152,12 +159,40 @@ fn main() -> ExitCode {
     let words: Vec<&str> = arguments.iter().map(String::as_str).collect();
     match words[..] {
         ["--input", family, index] => write_input(family, index),
-        [reference, tested] => compare_all(&Comparison::new(reference, tested)),
+        ["--list"] => list_families(),
+        [reference, tested, ref names @ ..] => match named_families(names) {
+            Ok(families) => compare_all(&Comparison::new(reference, tested, families)),
+            Err(name) => {
+                eprintln!("differential: no family {name}");
+                ExitCode::FAILURE
+            }
+        },
         _ => {
-            eprintln!("usage: differential REFERENCE TESTED | differential --input FAMILY INDEX");
+            eprintln!(
+                "usage: differential REFERENCE TESTED [FAMILY..] | differential --list | \
+                 differential --input FAMILY INDEX"
+            );
             ExitCode::FAILURE
         }
     }
+}
+
+/// The families of these names; all if none is named. An unknown name is the error.
+fn named_families<'a>(names: &[&'a str]) -> Result<Vec<Family>, &'a str> {
+    let all = all_families();
+    let unknown = |name: &&&str| all.iter().all(|family| family.name != **name);
+    if let Some(name) = names.iter().find(unknown) {
+        return Err(name);
+    }
+    let wanted = |family: &Family| names.is_empty() || names.contains(&family.name);
+    Ok(all.into_iter().filter(wanted).collect())
+}
+
+fn list_families() -> ExitCode {
+    for family in all_families() {
+        println!("{} {}", family.name, family.count);
+    }
+    ExitCode::SUCCESS
 }
 
 fn write_input(name: &str, index: &str) -> ExitCode {

@@ -45,6 +45,13 @@ impl Random {
     pub fn octets(&mut self, count: usize) -> Vec<u8> {
         (0..count).map(|_| self.octet()).collect()
     }
+
+    /// Puts the values into another order.
+    pub fn shuffle<T>(&mut self, values: &mut [T]) {
+        for place in (1..values.len()).rev() {
+            values.swap(place, self.below(place + 1));
+        }
+    }
 }
 
 /// A seed for input `index` of a family, the same in every run (FNV-1a over the name).

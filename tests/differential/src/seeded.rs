@@ -1,30 +1,57 @@
 //! Families of inputs that are drawn from a seed: whole runs of calls for one segment, each
 //! family with its own trouble in mind.
 
+use crate::pools::{self, Families};
 use crate::random::Random;
-use crate::record::{self, MAX_COMMUNITIES};
-use crate::segment::{self, any_tag, pool_of_style, shuffle, Profile, Segment, TWINS};
+use crate::record::{self, Address, MAX_COMMUNITIES};
+use crate::segment::{self, any_tag, Profile, Segment};
 use crate::Make;
+use Families::{Both, OnlyV4};
 
 /// The families: name, number of inputs, and what makes an input from a seed.
 pub fn families() -> Vec<(&'static str, u64, Make)> {
     vec![
-        ("mixed", 1500, mixed),
-        ("agreed", 2000, agreed),
-        ("one-differs", 1500, one_differs),
-        ("preference-ties", 1000, preference_ties),
-        ("ac-df", 1500, ac_df),
-        ("full-table", 800, full_table),
-        ("full-table-faults", 400, full_table_faults),
-        ("weights", 1500, weights),
-        ("faulty-routes", 1000, faulty_routes),
-        ("community-lists", 1500, community_lists),
+        ("mixed", 1500, |seed| mixed(seed, OnlyV4)),
+        ("agreed", 2000, |seed| agreed(seed, OnlyV4)),
+        ("one-differs", 1500, |seed| one_differs(seed, OnlyV4)),
+        ("preference-ties", 1000, |seed| {
+            preference_ties(seed, OnlyV4)
+        }),
+        ("ac-df", 1500, |seed| ac_df(seed, OnlyV4)),
+        ("full-table", 800, |seed| full_table(seed, OnlyV4)),
+        ("full-table-faults", 400, |seed| {
+            full_table_faults(seed, OnlyV4)
+        }),
+        ("weights", 1500, |seed| weights(seed, OnlyV4)),
+        ("faulty-routes", 1000, |seed| faulty_routes(seed, OnlyV4)),
+        ("community-lists", 1500, |seed| {
+            community_lists(seed, OnlyV4)
+        }),
         ("tags", 300, tags),
         ("esi-texts", 1000, esi_texts),
-        ("bad-records", 1000, bad_records),
-        ("noise", 1000, noise),
+        ("bad-records", 1000, |seed| bad_records(seed, OnlyV4)),
+        ("noise", 1000, |seed| noise(seed, OnlyV4)),
         ("nonsense", 400, nonsense),
-        ("long-runs", 6, long_runs),
+        ("both-mixed", 1000, |seed| mixed(seed, Both)),
+        ("both-agreed", 1200, |seed| agreed(seed, Both)),
+        ("both-one-differs", 500, |seed| one_differs(seed, Both)),
+        ("both-preference-ties", 600, |seed| {
+            preference_ties(seed, Both)
+        }),
+        ("both-ac-df", 1200, |seed| ac_df(seed, Both)),
+        ("both-full-table", 800, |seed| full_table(seed, Both)),
+        ("both-full-table-faults", 300, |seed| {
+            full_table_faults(seed, Both)
+        }),
+        ("both-weights", 1200, |seed| weights(seed, Both)),
+        ("both-faulty-routes", 1000, |seed| faulty_routes(seed, Both)),
+        ("both-community-lists", 400, |seed| {
+            community_lists(seed, Both)
+        }),
+        ("both-bad-records", 600, |seed| bad_records(seed, Both)),
+        ("both-noise", 800, |seed| noise(seed, Both)),
+        ("long-runs", 6, |seed| long_runs(seed, OnlyV4)),
+        ("both-long-runs", 3, |seed| long_runs(seed, Both)),
     ]
 }
 
@@ -70,20 +97,20 @@ fn agreed_on(random: &mut Random, algorithm: u8) -> Profile {
 }
 
 /// Every kind of call with every algorithm.
-fn mixed(seed: u64) -> Vec<u8> {
+fn mixed(seed: u64, families: Families) -> Vec<u8> {
     let mut random = Random::new(!seed);
     let profile = any_profile(&mut random);
-    let mut segment = Segment::new(seed, random.between(1, 12), profile);
+    let mut segment = Segment::new(seed, families, random.between(1, 12), profile);
     segment.steps(random.between(1, 90));
     segment.query_row(&[]);
     segment.octets
 }
 
 /// Every kind of call, and all routes agree.
-fn agreed(seed: u64) -> Vec<u8> {
+fn agreed(seed: u64, families: Families) -> Vec<u8> {
     let mut random = Random::new(!seed);
     let profile = agreed_profile(&mut random);
-    let mut segment = Segment::new(seed, random.between(1, 12), profile);
+    let mut segment = Segment::new(seed, families, random.between(1, 12), profile);
     segment.steps(random.between(1, 60));
     let pool = segment.pool.clone();
     segment.query_row(&pool);
@@ -91,11 +118,11 @@ fn agreed(seed: u64) -> Vec<u8> {
 }
 
 /// All routes agree, then one differs, then it agrees again or goes.
-fn one_differs(seed: u64) -> Vec<u8> {
+fn one_differs(seed: u64, families: Families) -> Vec<u8> {
     let mut random = Random::new(!seed);
     let profile = agreed_profile(&mut random);
-    let mut segment = Segment::new(seed, random.between(2, 8), profile.clone());
-    let ready: Vec<u32> = segment.pool.iter().copied().skip(1).collect();
+    let mut segment = Segment::new(seed, families, random.between(2, 8), profile.clone());
+    let ready: Vec<Address> = segment.pool.iter().copied().skip(1).collect();
     segment.fill();
     segment.query_row(&ready);
     let odd = segment.address();
@@ -128,35 +155,35 @@ fn other_profile(random: &mut Random, profile: &Profile) -> Profile {
 }
 
 /// Equal preferences with DP set and clear, under both preference algorithms.
-fn preference_ties(seed: u64) -> Vec<u8> {
+fn preference_ties(seed: u64, families: Families) -> Vec<u8> {
     let mut random = Random::new(!seed);
     let algorithm = random.pick(&[2, 3]);
     let mut profile = agreed_on(&mut random, algorithm);
     let near = random.pick(&FEW_PREFERENCES);
     profile.preferences = vec![near, near, near.wrapping_add(1), near.swap_bytes()];
-    let mut segment = Segment::new(seed, random.between(2, 10), profile);
+    let mut segment = Segment::new(seed, families, random.between(2, 10), profile);
     segment.fill();
     for _ in 0..random.between(4, 20) {
         let address = segment.address();
         segment.announce(address);
         let ready = segment.ready_list();
-        segment.push(&record::query(7, &ready));
+        segment.ask(7, &ready);
     }
     segment.octets
 }
 
 /// AC-DF agreed by all, with every kind of ready list and few routes ready.
-fn ac_df(seed: u64) -> Vec<u8> {
+fn ac_df(seed: u64, families: Families) -> Vec<u8> {
     let mut random = Random::new(!seed);
     let algorithm = random.below(4) as u8;
     let mut profile = agreed_on(&mut random, algorithm);
     profile.ac_df = 100;
-    let mut segment = Segment::new(seed, random.between(1, 20), profile);
+    let mut segment = Segment::new(seed, families, random.between(1, 20), profile);
     segment.fill();
     for _ in 0..random.between(5, 30) {
         let ready = segment.ready_list();
         let tag = any_tag(&mut segment.random);
-        segment.push(&record::query(tag, &ready));
+        segment.ask(tag, &ready);
         if segment.random.chance(20) {
             segment.step();
         }
@@ -165,14 +192,14 @@ fn ac_df(seed: u64) -> Vec<u8> {
 }
 
 /// Around 64 routes: the 65th, withdrawals, refills and replacements.
-fn full_table(seed: u64) -> Vec<u8> {
+fn full_table(seed: u64, families: Families) -> Vec<u8> {
     let mut random = Random::new(!seed);
     let profile = if random.chance(70) {
         agreed_profile(&mut random)
     } else {
         any_profile(&mut random)
     };
-    let mut segment = Segment::new(seed, random.between(63, 70), profile);
+    let mut segment = Segment::new(seed, families, random.between(63, 70), profile);
     segment.fill();
     for _ in 0..random.between(5, 40) {
         let address = segment.address();
@@ -183,16 +210,16 @@ fn full_table(seed: u64) -> Vec<u8> {
         }
     }
     let mut ready = segment.pool.clone();
-    shuffle(&mut segment.random, &mut ready);
+    segment.random.shuffle(&mut ready);
     segment.query_row(&ready);
     segment.octets
 }
 
 /// A full table met by announcements with several faults, and replacements among them.
-fn full_table_faults(seed: u64) -> Vec<u8> {
+fn full_table_faults(seed: u64, families: Families) -> Vec<u8> {
     let mut random = Random::new(!seed);
     let profile = agreed_profile(&mut random);
-    let mut segment = Segment::new(seed, 66, profile);
+    let mut segment = Segment::new(seed, families, 66, profile);
     segment.fill();
     for _ in 0..random.between(5, 30) {
         let octets = faulty_announcement(&mut segment);
@@ -203,12 +230,12 @@ fn full_table_faults(seed: u64) -> Vec<u8> {
 }
 
 /// Weights: many tags, and addresses that tie.
-fn weights(seed: u64) -> Vec<u8> {
+fn weights(seed: u64, families: Families) -> Vec<u8> {
     let mut random = Random::new(!seed);
     let profile = agreed_on(&mut random, 1);
-    let mut segment = Segment::new(seed, random.between(1, 16), profile);
+    let mut segment = Segment::new(seed, families, random.between(1, 16), profile);
     if random.chance(60) {
-        segment.pool = pool_of_style(&mut random, segment.pool.len() + 1, TWINS);
+        segment.pool = pools::twins(&mut random, families, segment.pool.len() + 1);
     }
     segment.fill();
     for _ in 0..random.between(5, 30) {
@@ -222,10 +249,10 @@ fn weights(seed: u64) -> Vec<u8> {
 }
 
 /// Announcements with one fault or several, between good ones.
-fn faulty_routes(seed: u64) -> Vec<u8> {
+fn faulty_routes(seed: u64, families: Families) -> Vec<u8> {
     let mut random = Random::new(!seed);
     let profile = agreed_profile(&mut random);
-    let mut segment = Segment::new(seed, random.between(1, 6), profile);
+    let mut segment = Segment::new(seed, families, random.between(1, 6), profile);
     for _ in 0..random.between(3, 40) {
         let octets = faulty_announcement(&mut segment);
         segment.push(&octets);
@@ -251,7 +278,8 @@ fn faulty_announcement(segment: &mut Segment) -> Vec<u8> {
         _ => {}
     }
     let mut route = record::route(&random.octets(8), &esi, address);
-    for (place, good) in [(0, 4), (1, 23), (20, 32)] {
+    for place in [0, 1, 20] {
+        let good = route[place];
         if random.chance(10) {
             route[place] = random.pick(&[good, good ^ 1, good ^ 128, 0, 255]);
         }
@@ -271,12 +299,12 @@ fn faulty_announcement(segment: &mut Segment) -> Vec<u8> {
 }
 
 /// Lists with several communities of all kinds, of good and bad lengths.
-fn community_lists(seed: u64) -> Vec<u8> {
+fn community_lists(seed: u64, families: Families) -> Vec<u8> {
     let mut random = Random::new(!seed);
     let mut profile = agreed_profile(&mut random);
     profile.ac_df = 50;
     profile.algorithms.push(2);
-    let mut segment = Segment::new(seed, random.between(1, 4), profile);
+    let mut segment = Segment::new(seed, families, random.between(1, 4), profile);
     for _ in 0..random.between(2, 16) {
         let address = segment.address();
         let list = community_list(&mut segment);
@@ -328,7 +356,7 @@ fn some_community(random: &mut Random, mut octets: Vec<u8>) -> Vec<u8> {
 fn tags(seed: u64) -> Vec<u8> {
     let mut random = Random::new(!seed);
     let profile = agreed_profile(&mut random);
-    let mut segment = Segment::new(seed, random.between(1, 9), profile);
+    let mut segment = Segment::new(seed, OnlyV4, random.between(1, 9), profile);
     let tags = [
         0,
         1,
@@ -369,7 +397,7 @@ fn esi_texts(seed: u64) -> Vec<u8> {
         damage_text(&mut random, &mut text);
     }
     let mut octets = record::record(record::KIND_ESI, &text);
-    octets.extend(record::announcement(&esi, 0x0A00_0001, &[]));
+    octets.extend(record::announcement(&esi, Address::V4(0x0A00_0001), &[]));
     octets.extend(record::query(1, &[]));
     octets
 }
@@ -402,12 +430,12 @@ fn damage_text(random: &mut Random, text: &mut Vec<u8>) {
 }
 
 /// A good run with one record broken, and good records after it.
-fn bad_records(seed: u64) -> Vec<u8> {
+fn bad_records(seed: u64, families: Families) -> Vec<u8> {
     let mut random = Random::new(!seed);
     let profile = any_profile(&mut random);
-    let mut segment = Segment::new(seed, random.between(1, 6), profile);
+    let mut segment = Segment::new(seed, families, random.between(1, 6), profile);
     segment.steps(random.below(12));
-    let bad = bad_record(&mut segment);
+    let bad = bad_record(&mut segment, families);
     if segment.random.chance(10) {
         segment.octets.clear();
     }
@@ -416,10 +444,11 @@ fn bad_records(seed: u64) -> Vec<u8> {
     segment.octets
 }
 
-fn bad_record(segment: &mut Segment) -> Vec<u8> {
+fn bad_record(segment: &mut Segment, families: Families) -> Vec<u8> {
     let random = &mut segment.random;
     let length = random.below(256);
-    let mut octets = record::record(random.below(4) as u8, &random.octets(length));
+    let kinds = if families == Both { 6 } else { 4 };
+    let mut octets = record::record(random.below(kinds) as u8, &random.octets(length));
     match random.below(6) {
         0 => octets[0] = random.octet(),
         1 => octets[1] = random.octet(),
@@ -432,10 +461,10 @@ fn bad_record(segment: &mut Segment) -> Vec<u8> {
 }
 
 /// A good run with octets changed, dropped or put in anywhere.
-fn noise(seed: u64) -> Vec<u8> {
+fn noise(seed: u64, families: Families) -> Vec<u8> {
     let mut random = Random::new(!seed);
     let profile = agreed_profile(&mut random);
-    let mut segment = Segment::new(seed, random.between(1, 8), profile);
+    let mut segment = Segment::new(seed, families, random.between(1, 8), profile);
     segment.steps(random.between(1, 30));
     let mut octets = segment.octets;
     for _ in 0..random.between(1, 4) {
@@ -465,14 +494,14 @@ fn nonsense(seed: u64) -> Vec<u8> {
 }
 
 /// A hundred thousand records.
-fn long_runs(seed: u64) -> Vec<u8> {
+fn long_runs(seed: u64, families: Families) -> Vec<u8> {
     let mut random = Random::new(!seed);
     let profile = if random.chance(60) {
         agreed_profile(&mut random)
     } else {
         any_profile(&mut random)
     };
-    let mut segment = Segment::new(seed, random.between(2, 70), profile);
+    let mut segment = Segment::new(seed, families, random.between(2, 70), profile);
     segment.steps(100_000);
     segment.octets
 }

@@ -1,12 +1,9 @@
 //! One segment while an input for it is written: its identifier, a pool of addresses that come
 //! and go, what its routers like to carry, and the octets so far.
 
+use crate::pools::{self, Families};
 use crate::random::Random;
-use crate::record::{self, Esi};
-
-/// The styles of address pools; the twins are equal in the low 31 bits.
-const STYLES: usize = 7;
-pub const TWINS: usize = 4;
+use crate::record::{self, Address, Esi};
 
 /// What announcements of a segment are drawn from.
 #[derive(Clone)]
@@ -22,21 +19,23 @@ pub struct Profile {
 pub struct Segment {
     pub random: Random,
     pub esi: Esi,
-    pub pool: Vec<u32>,
+    pub families: Families,
+    pub pool: Vec<Address>,
     pub profile: Profile,
     pub octets: Vec<u8>,
 }
 
 impl Segment {
     /// A segment whose input starts with a good identifier.
-    pub fn new(seed: u64, pool_size: usize, profile: Profile) -> Segment {
+    pub fn new(seed: u64, families: Families, pool_size: usize, profile: Profile) -> Segment {
         let mut random = Random::new(seed);
         let esi = identifier(&mut random);
-        let pool = address_pool(&mut random, pool_size);
+        let pool = pools::some(&mut random, families, pool_size);
         Segment {
             octets: record::esi_record(&esi),
             random,
             esi,
+            families,
             pool,
             profile,
         }
@@ -47,19 +46,33 @@ impl Segment {
     }
 
     /// An address of the pool.
-    pub fn address(&mut self) -> u32 {
+    pub fn address(&mut self) -> Address {
         self.random.pick(&self.pool)
     }
 
     /// An address of the pool or, sometimes, a stranger or zero.
-    pub fn any_address(&mut self) -> u32 {
-        match self.random.below(12) {
-            0 => 0,
-            1 => self.random.number() as u32,
-            2 => self.address().wrapping_add(1),
-            3 => self.address() ^ 0x8000_0000,
-            4 => self.address().swap_bytes(),
+    pub fn any_address(&mut self) -> Address {
+        let strange = self.random.below(12);
+        if strange > 4 {
+            return self.address();
+        }
+        let address = match strange {
+            0 | 1 => Address::V4(0),
             _ => self.address(),
+        };
+        if self.families == Families::Both && self.random.chance(40) {
+            return pools::in_other_family(&mut self.random, address);
+        }
+        match (strange, address) {
+            (0, address) => address,
+            (1, _) if self.families == Families::Both => pools::any(&mut self.random),
+            (1, _) => Address::V4(self.random.number() as u32),
+            (2, Address::V4(number)) => Address::V4(number.wrapping_add(1)),
+            (2, Address::V6(number)) => Address::V6(number.wrapping_add(1)),
+            (3, Address::V4(number)) => Address::V4(number ^ 1 << 31),
+            (3, Address::V6(number)) => Address::V6(number ^ 1 << self.random.below(128)),
+            (_, Address::V4(number)) => Address::V4(number.swap_bytes()),
+            (_, Address::V6(number)) => Address::V6(number.swap_bytes()),
         }
     }
 
@@ -83,20 +96,20 @@ impl Segment {
     }
 
     /// Announces an address with a community of the profile.
-    pub fn announce(&mut self, address: u32) {
+    pub fn announce(&mut self, address: Address) {
         let communities = self.community();
         self.announce_with(address, &communities);
     }
 
     /// Announces an address with these communities and some distinguisher.
-    pub fn announce_with(&mut self, address: u32, communities: &[u8]) {
+    pub fn announce_with(&mut self, address: Address, communities: &[u8]) {
         let distinguisher = self.random.octets(8);
         let mut body = record::route(&distinguisher, &self.esi, address);
         body.extend(communities);
         self.push(&record::record(record::KIND_ANNOUNCEMENT, &body));
     }
 
-    pub fn withdraw(&mut self, address: u32) {
+    pub fn withdraw(&mut self, address: Address) {
         self.push(&record::withdrawal(address));
     }
 
@@ -104,11 +117,22 @@ impl Segment {
     pub fn query(&mut self) {
         let tag = any_tag(&mut self.random);
         let ready = self.ready_list();
-        self.push(&record::query(tag, &ready));
+        self.ask(tag, &ready);
+    }
+
+    /// A query that lists the IPv4 addresses of the list as ready or, where the pool may have
+    /// both families, those of either.
+    pub fn ask(&mut self, tag: u32, ready: &[Address]) {
+        let octets = if self.families == Families::Both && self.random.chance(60) {
+            record::v6_query(tag, ready)
+        } else {
+            record::query(tag, ready)
+        };
+        self.push(&octets);
     }
 
     /// A ready list: empty, a part of the pool, with strangers, repeats and zeros, or long.
-    pub fn ready_list(&mut self) -> Vec<u32> {
+    pub fn ready_list(&mut self) -> Vec<Address> {
         match self.random.below(6) {
             0 => Vec::new(),
             1 => self.pool.clone(),
@@ -122,10 +146,10 @@ impl Segment {
     }
 
     /// Queries for a row of tags, so that each eligible router shows in turn under rule 0.
-    pub fn query_row(&mut self, ready: &[u32]) {
+    pub fn query_row(&mut self, ready: &[Address]) {
         let first = self.random.between(1, 5000) as u32;
         for step in 0..self.pool.len().min(8) as u32 {
-            self.push(&record::query(first + step, ready));
+            self.ask(first + step, ready);
         }
     }
 
@@ -168,52 +192,6 @@ pub fn identifier(random: &mut Random) -> Esi {
     esi
 }
 
-/// Different addresses other than zero, of a style that shows mistakes of order.
-pub fn address_pool(random: &mut Random, size: usize) -> Vec<u32> {
-    let style = random.below(STYLES);
-    pool_of_style(random, size, style)
-}
-
-pub fn pool_of_style(random: &mut Random, size: usize, style: usize) -> Vec<u32> {
-    let base = random.number() as u32;
-    let mut pool = Vec::new();
-    while pool.len() < size {
-        let address = address_of_style(random, style, base, pool.len() as u32);
-        if address != 0 && !pool.contains(&address) {
-            pool.push(address);
-        }
-    }
-    shuffle(random, &mut pool);
-    pool
-}
-
-/// An address of a style; a small part is drawn freely so that every style has enough.
-fn address_of_style(random: &mut Random, style: usize, base: u32, index: u32) -> u32 {
-    if random.chance(10) {
-        return random.number() as u32;
-    }
-    let small = random.below(256) as u32;
-    match style {
-        // 10.0.0.1, 10.0.0.2, ..
-        0 => 0x0A00_0001 + index,
-        // Text order differs: .9 and .10, .99 and .100.
-        1 => {
-            0x0A00_0000
-                | random.pick(&[1, 2, 9, 10, 11, 19, 20, 99, 100, 101, 199, 200])
-                | small << 8
-        }
-        // Low octet first differs: 1.0.0.2 and 2.0.0.1.
-        2 => small << 24 | (255 - small),
-        // Around the middle of the numbers, and both ends.
-        3 => random.pick(&[0x7FFF_FF80, 0x0000_0000, 0xFFFF_FF00]) + small,
-        // Twins that are equal in the low 31 bits.
-        TWINS => ((base & 0x7FFF_FF00) + index / 2) | (index % 2) << 31,
-        // One octet differs, at any place.
-        5 => base ^ small << random.pick(&[0, 8, 16, 24]),
-        _ => random.number() as u32,
-    }
-}
-
 /// A tag: mostly good, sometimes reserved or at a limit.
 pub fn any_tag(random: &mut Random) -> u32 {
     match random.below(12) {
@@ -221,11 +199,5 @@ pub fn any_tag(random: &mut Random) -> u32 {
         1 => random.pick(&[1, u32::MAX - 1, 0x7FFF_FFFF, 0x8000_0000]),
         2..=4 => random.number() as u32,
         _ => random.between(1, 4094) as u32,
-    }
-}
-
-pub fn shuffle<T>(random: &mut Random, values: &mut [T]) {
-    for place in (1..values.len()).rev() {
-        values.swap(place, random.below(place + 1));
     }
 }

@@ -2,7 +2,7 @@
 //! value of an octet, every length, records across the edges of read blocks. Each family has a
 //! count and gives its input for an index below it.
 
-use crate::record::{self, Esi};
+use crate::record::{self, Address, Esi};
 use crate::Make;
 
 /// The families: name, number of inputs, and what makes the input of an index below it.
@@ -28,11 +28,11 @@ pub fn families() -> Vec<(&'static str, u64, Make)> {
     ]
 }
 
-const ESI: Esi = [0x00, 0x11, 0x22, 0x33, 0x44, 0x55, 0x66, 0x77, 0x88, 0x99];
+pub const ESI: Esi = [0x00, 0x11, 0x22, 0x33, 0x44, 0x55, 0x66, 0x77, 0x88, 0x99];
 const TEXT_LENGTH: u64 = 29;
 
-fn ten(last: u8) -> u32 {
-    u32::from_be_bytes([10, 0, 0, last])
+pub fn ten(last: u8) -> Address {
+    Address::V4(u32::from_be_bytes([10, 0, 0, last]))
 }
 
 /// The runs that are cut: small ones, with refusals, with long records.
@@ -46,7 +46,7 @@ fn runs_to_cut() -> Vec<Vec<u8>> {
     ]
 }
 
-fn two_routers() -> Vec<u8> {
+pub fn two_routers() -> Vec<u8> {
     [
         record::esi_record(&ESI),
         record::announcement(&ESI, ten(1), &[]),
@@ -75,9 +75,9 @@ fn refusals() -> Vec<u8> {
         record::esi_record(&ESI),
         record::announcement(&[0; 10], ten(1), &[]),
         record::announcement(&[7; 10], ten(1), &[]),
-        record::announcement(&ESI, 0, &[]),
+        record::announcement(&ESI, Address::V4(0), &[]),
         record::announcement(&ESI, ten(1), &[6; 9]),
-        record::withdrawal(0),
+        record::withdrawal(Address::V4(0)),
         record::withdrawal(ten(1)),
         record::query(0, &[]),
         record::query(1, &[ten(1)]),
@@ -101,7 +101,7 @@ fn ready_lists() -> Vec<u8> {
         record::esi_record(&ESI),
         record::announcement(&ESI, ten(1), &weight),
         record::announcement(&ESI, ten(2), &weight),
-        record::query(5, &[ten(2), ten(3), 0]),
+        record::query(5, &[ten(2), ten(3), Address::V4(0)]),
         record::query(5, &[ten(1), ten(2)]),
         record::query(5, &[]),
     ]
@@ -143,10 +143,11 @@ fn stray(index: u64) -> Vec<u8> {
 
 const ROUTE_OCTET_COUNT: u64 = 25;
 
-/// One octet of a route with every value, in announcements of one run.
+/// One octet of a route with every value, in announcements of one run. 128 comes last: as address
+/// length it makes the record a bad one.
 fn route_octet(index: u64) -> Vec<u8> {
     let mut octets = two_routers();
-    for value in 0..=255 {
+    for value in (0..128).chain(129..=255).chain([128]) {
         let mut route = record::route(&[1; 8], &ESI, ten(1));
         route[index as usize] = value;
         octets.extend(announce_and_ask(&route, &[]));
@@ -229,7 +230,11 @@ fn several(index: u64) -> Vec<u8> {
     let mut octets = record::esi_record(&ESI);
     let other = record::community(2, false, true, 200);
     octets.extend(record::announcement(&ESI, ten(2), &other));
-    octets.extend(record::announcement(&ESI, ten(1), &list.collect::<Vec<u8>>()));
+    octets.extend(record::announcement(
+        &ESI,
+        ten(1),
+        &list.collect::<Vec<u8>>(),
+    ));
     for tag in 1..4 {
         octets.extend(record::query(tag, &[]));
     }
@@ -356,7 +361,7 @@ fn body_length(index: u64) -> Vec<u8> {
     let kind = 1 + (index / 256) as u8;
     let start = match kind {
         record::KIND_ANNOUNCEMENT => record::route(&[0; 8], &ESI, ten(3)),
-        record::KIND_WITHDRAWAL => ten(1).to_be_bytes().to_vec(),
+        record::KIND_WITHDRAWAL => ten(1).octets(),
         _ => vec![0, 0, 0, 9],
     };
     let endless = start

@@ -1,13 +1,14 @@
 //! The bench program: records in, one line each out. Document 01, "The bench program"; document
-//! 02, M-103 (places on lines).
+//! 02, M-103 (places on lines) and M-105 (kinds 4 and 5, IPv6 routes and answers).
 //!
 //! A record is the mark D5 4F, a kind octet, a length octet and that many octets. Records are
 //! taken one by one, so memory does not grow with the input.
 
+use crate::address::{Address, V4_LENGTH, V6_LENGTH};
 use crate::election;
 use crate::esi;
 use crate::refusal::{answer_number, Refusal};
-use crate::route::{self, ROUTE_LENGTH};
+use crate::route::{self, ADDRESS_BITS_PLACE, V4_ROUTE_LENGTH, V6_BITS, V6_ROUTE_LENGTH};
 use crate::table::Table;
 use std::io::{self, ErrorKind, Read, Write};
 use std::net::Ipv4Addr;
@@ -17,9 +18,12 @@ pub const KIND_ESI: u8 = 0;
 pub const KIND_ANNOUNCEMENT: u8 = 1;
 pub const KIND_WITHDRAWAL: u8 = 2;
 pub const KIND_QUERY: u8 = 3;
+pub const KIND_V6_WITHDRAWAL: u8 = 4;
+pub const KIND_V6_QUERY: u8 = 5;
 pub const MAX_BODY: usize = 255;
 
 const HEADER_LENGTH: usize = 4;
+const TAG_LENGTH: usize = 4;
 
 /// What stands next in the input.
 enum Next {
@@ -95,8 +99,10 @@ fn take_record(table: &mut Option<Table>, kind: u8, octets: &[u8]) -> Outcome {
     };
     match kind {
         KIND_ANNOUNCEMENT => take_announcement(known, octets),
-        KIND_WITHDRAWAL => take_withdrawal(known, octets),
-        KIND_QUERY => take_query(known, octets),
+        KIND_WITHDRAWAL => take_withdrawal(known, octets, V4_LENGTH),
+        KIND_QUERY => take_query(known, octets, V4_LENGTH),
+        KIND_V6_WITHDRAWAL => take_withdrawal(known, octets, V6_LENGTH),
+        KIND_V6_QUERY => take_query(known, octets, V6_LENGTH),
         _ => bad_record(),
     }
 }
@@ -133,44 +139,59 @@ fn with_place(letter: char, number: u8, place: usize) -> String {
     }
 }
 
+/// A route of 25 octets or, where octet 20 is 128, of 37; then the communities.
 fn take_announcement(table: &mut Table, octets: &[u8]) -> Outcome {
-    if octets.len() < ROUTE_LENGTH {
+    if octets.len() < V4_ROUTE_LENGTH {
         return bad_record();
     }
-    let (octets, communities) = octets.split_at(ROUTE_LENGTH);
+    let length = match octets[ADDRESS_BITS_PLACE] {
+        V6_BITS => V6_ROUTE_LENGTH,
+        _ => V4_ROUTE_LENGTH,
+    };
+    if octets.len() < length {
+        return bad_record();
+    }
+    let (octets, communities) = octets.split_at(length);
     let answer = table.announce(octets, communities);
     let place = route::place(octets);
     Outcome::GoOn(with_place('a', answer_number(&answer), place))
 }
 
-fn take_withdrawal(table: &mut Table, octets: &[u8]) -> Outcome {
-    let Ok(octets) = <[u8; 4]>::try_from(octets) else {
-        return bad_record();
-    };
-    let answer = table.withdraw(u32::from_be_bytes(octets));
-    Outcome::GoOn(format!("w {}", answer_number(&answer)))
+/// A withdrawal of an address of so many octets.
+fn take_withdrawal(table: &mut Table, octets: &[u8], length: usize) -> Outcome {
+    match Address::from_octets(octets) {
+        Some(address) if octets.len() == length => {
+            let answer = table.withdraw(address);
+            Outcome::GoOn(format!("w {}", answer_number(&answer)))
+        }
+        _ => bad_record(),
+    }
 }
 
-fn take_query(table: &Table, octets: &[u8]) -> Outcome {
-    if octets.len() % 4 != 0 {
+/// A query: the tag, then ready addresses of so many octets each.
+fn take_query(table: &Table, octets: &[u8], length: usize) -> Outcome {
+    let Some((tag, list)) = octets.split_first_chunk::<TAG_LENGTH>() else {
+        return bad_record();
+    };
+    if list.len() % length != 0 {
         return bad_record();
     }
-    let numbers: Vec<u32> = octets.chunks_exact(4).map(number).collect();
-    let Some((tag, ready)) = numbers.split_first() else {
-        return bad_record();
-    };
-    Outcome::GoOn(match election::elect(table, *tag, ready) {
-        Ok(elected) => {
-            let address = Ipv4Addr::from(elected.address);
-            format!("q 0 {address} {}", elected.count)
-        }
-        Err(refusal) => format!("q {}", refusal.number()),
-    })
+    let ready: Vec<Address> = list
+        .chunks_exact(length)
+        .filter_map(Address::from_octets)
+        .collect();
+    Outcome::GoOn(
+        match election::elect(table, u32::from_be_bytes(*tag), &ready) {
+            Ok(elected) => format!("q 0 {} {}", printed(elected.address), elected.count),
+            Err(refusal) => format!("q {}", refusal.number()),
+        },
+    )
 }
 
-/// Four octets as a number, high octet first.
-fn number(octets: &[u8]) -> u32 {
-    octets
-        .iter()
-        .fold(0, |number, octet| number << 8 | u32::from(*octet))
+/// An address as a query prints it: dotted decimals, or 32 lower-case hex digits.
+fn printed(address: Address) -> String {
+    match address {
+        Address::V4(number) => Ipv4Addr::from(number).to_string(),
+        Address::V6(number) => format!("{number:032x}"),
+    }
 }

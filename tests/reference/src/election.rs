@@ -1,5 +1,7 @@
-//! The election for one Ethernet Tag. Document 01, "The election".
+//! The election for one Ethernet Tag. Document 01, "The election"; document 02, M-105 (addresses
+//! of both families).
 
+use crate::address::{Address, ROW_WORDS};
 use crate::community::{HIGHEST_PREFERENCE, LOWEST_PREFERENCE};
 use crate::hrw;
 use crate::refusal::Refusal;
@@ -14,18 +16,42 @@ pub const MAX_READY: usize = 64;
 /// the entry at place i of the table is eligible.
 #[derive(Clone, Copy, Debug, PartialEq, Eq)]
 pub struct Election {
-    pub address: u32,
+    pub address: Address,
     pub algorithm: u8,
     pub count: u32,
     pub candidates: u64,
 }
 
 /// Elects for a tag. Reserved tag, 10; ready list over 64, 11; no eligible router, 12.
-pub fn elect(table: &Table, tag: u32, ready: &[u32]) -> Result<Election, Refusal> {
+pub fn elect(table: &Table, tag: u32, ready: &[Address]) -> Result<Election, Refusal> {
+    elect_listed(table, tag, ready.len(), ready)
+}
+
+/// The same with a ready list as the library takes it: rows of five words. A row of a family other
+/// than 4 and 6 is a stranger, and counts as a row; words after the last whole row are none.
+pub fn elect_rows(table: &Table, tag: u32, words: &[u32]) -> Result<Election, Refusal> {
+    let rows: Vec<&[u32; ROW_WORDS]> = words
+        .chunks_exact(ROW_WORDS)
+        .filter_map(|row| row.try_into().ok())
+        .collect();
+    let ready: Vec<Address> = rows
+        .iter()
+        .filter_map(|row| Address::from_row(row))
+        .collect();
+    elect_listed(table, tag, rows.len(), &ready)
+}
+
+/// The election with a ready list of so many members, of which these are addresses.
+fn elect_listed(
+    table: &Table,
+    tag: u32,
+    listed: usize,
+    ready: &[Address],
+) -> Result<Election, Refusal> {
     if tag == 0 || tag == u32::MAX {
         return Err(Refusal::ReservedTag);
     }
-    if ready.len() > MAX_READY {
+    if listed > MAX_READY {
         return Err(Refusal::ReadyLength);
     }
     let (algorithm, ac_df) = algorithm_in_use(table.entries());
@@ -62,7 +88,7 @@ pub fn algorithm_in_use(entries: &[Entry]) -> (u8, bool) {
 }
 
 /// The set of eligible places: all or, with AC-DF in use, those on the ready list.
-fn candidate_set(entries: &[Entry], ac_df: bool, ready: &[u32]) -> u64 {
+fn candidate_set(entries: &[Entry], ac_df: bool, ready: &[Address]) -> u64 {
     let mut set = 0;
     for (place, entry) in entries.iter().enumerate() {
         if !ac_df || ready.contains(&entry.address) {

@@ -6,7 +6,8 @@
 //! plate TEXT                      the segment identifier; TEXT is taken as it is, good or bad
 //! announce ADDRESS [OPTION..]     an announcement
 //! withdraw ADDRESS                a withdrawal
-//! query TAG [ready=ADDRESS,..]    a query; without ready= the ready list is empty
+//! query TAG [ready=ADDRESS,..]    a query that lists IPv4 routers as ready; without a list none is
+//! query TAG ready6=[ADDRESS,..]   a query that lists IPv6 routers as ready, be they none
 //! raw HEX..                       octets as they are, for damage
 //! ```
 //!
@@ -23,15 +24,24 @@
 //! ```
 //!
 //! An announcement with none of alg, pref, dp and acdf carries no election community of its
-//! own; with any of them it carries one, before those given by `community=`. Addresses are
-//! dotted decimals; 0.0.0.0 and reserved tags and identifiers are encoded as written, so that
-//! their refusals can be seen.
+//! own; with any of them it carries one, before those given by `community=`.
+//!
+//! An IPv4 address is written as dotted decimals, an IPv6 one in any form of RFC 4291: groups of
+//! hex digits, `::` for a run of zeros, the last two groups as dotted decimals. An announcement or
+//! a withdrawal is of the family that its address is written in, so ::ffff:10.0.0.1 is an IPv6
+//! router and not 10.0.0.1. A query lists routers of one family only, as its record does: `ready=`
+//! is kind 3, `ready6=` is kind 5, and a query without a list is kind 3. Zero addresses, reserved
+//! tags and reserved identifiers are encoded as written, so that their refusals can be seen.
 
-use crate::bench::{KIND_ANNOUNCEMENT, KIND_ESI, KIND_QUERY, KIND_WITHDRAWAL, MARK, MAX_BODY};
+use crate::address::Address;
+use crate::bench::{
+    KIND_ANNOUNCEMENT, KIND_ESI, KIND_QUERY, KIND_V6_QUERY, KIND_V6_WITHDRAWAL, KIND_WITHDRAWAL,
+    MARK, MAX_BODY,
+};
 use crate::community::{self, Community, COMMUNITY_LENGTH, DEFAULT_PREFERENCE};
 use crate::esi::{self, Esi};
-use crate::route::{ADDRESS_BITS, DISTINGUISHER_LENGTH, REST_LENGTH, ROUTE_TYPE};
-use std::net::Ipv4Addr;
+use crate::route::{octets_of, DISTINGUISHER_LENGTH};
+use std::net::{Ipv4Addr, Ipv6Addr};
 use std::str::FromStr;
 
 /// What is known from earlier lines: the identifier of the plate line, if it could be read.
@@ -87,7 +97,7 @@ impl Encoder {
             .esi
             .or(self.esi)
             .ok_or("no readable plate line before; give esi=")?;
-        let mut body = route_octets(&options.distinguisher.unwrap_or_default(), &esi, address);
+        let mut body = octets_of(&options.distinguisher.unwrap_or_default(), &esi, address);
         body.extend(options.election_community()?);
         body.extend(&options.communities);
         record(KIND_ANNOUNCEMENT, &body)
@@ -155,30 +165,53 @@ fn without_comment(line: &str) -> &str {
 }
 
 fn withdraw_line(rest: &str) -> Result<Vec<u8>, String> {
-    record(KIND_WITHDRAWAL, &address(rest)?.to_be_bytes())
+    let address = address(rest)?;
+    let kind = match address {
+        Address::V4(_) => KIND_WITHDRAWAL,
+        Address::V6(_) => KIND_V6_WITHDRAWAL,
+    };
+    record(kind, &address.octets())
 }
 
 fn query_line(rest: &str) -> Result<Vec<u8>, String> {
     let mut words = rest.split_whitespace();
     let tag: u32 = decimal(words.next().unwrap_or(""))?;
+    let (kind, ready) = match words.next() {
+        None => (KIND_QUERY, Vec::new()),
+        Some(word) => ready_list(word)?,
+    };
+    match words.next() {
+        Some(word) if word.starts_with("ready") => {
+            return Err("a query has one list, ready= or ready6=".to_string());
+        }
+        Some(word) => return Err(format!("`{word}` is too much")),
+        None => {}
+    }
     let mut body = tag.to_be_bytes().to_vec();
-    if let Some(word) = words.next() {
-        let list = word
-            .strip_prefix("ready=")
-            .ok_or_else(|| format!("unknown option `{word}`"))?;
-        body.extend(ready_octets(list)?);
-    }
-    if let Some(word) = words.next() {
-        return Err(format!("`{word}` is too much"));
-    }
-    record(KIND_QUERY, &body)
+    body.extend(ready);
+    record(kind, &body)
 }
 
-/// The addresses of a ready list, four octets each.
-fn ready_octets(list: &str) -> Result<Vec<u8>, String> {
+/// The kind of query that a list asks for, and the octets of its addresses.
+fn ready_list(word: &str) -> Result<(u8, Vec<u8>), String> {
+    match word.split_once('=') {
+        Some(("ready", list)) => Ok((KIND_QUERY, ready_octets(list, 4)?)),
+        Some(("ready6", list)) => Ok((KIND_V6_QUERY, ready_octets(list, 6)?)),
+        _ => Err(format!("unknown option `{word}`")),
+    }
+}
+
+/// The octets of a list's addresses, all of one family.
+fn ready_octets(list: &str, family: u8) -> Result<Vec<u8>, String> {
     let mut octets = Vec::new();
     for word in list.split(',').filter(|word| !word.is_empty()) {
-        octets.extend(address(word)?.to_be_bytes());
+        let address = address(word)?;
+        if address.family() != family {
+            return Err(format!(
+                "`{word}` is of the other family: ready= lists IPv4 routers, ready6= IPv6 ones"
+            ));
+        }
+        octets.extend(address.octets());
     }
     Ok(octets)
 }
@@ -192,16 +225,6 @@ fn record(kind: u8, body: &[u8]) -> Result<Vec<u8>, String> {
     Ok(octets)
 }
 
-/// The 25 octets of a route, without any check.
-fn route_octets(distinguisher: &[u8; DISTINGUISHER_LENGTH], esi: &Esi, address: u32) -> Vec<u8> {
-    let mut octets = vec![ROUTE_TYPE, REST_LENGTH];
-    octets.extend(distinguisher);
-    octets.extend(esi);
-    octets.push(ADDRESS_BITS);
-    octets.extend(address.to_be_bytes());
-    octets
-}
-
 fn set_once<T>(slot: &mut Option<T>, name: &str, value: T) -> Result<(), String> {
     match slot.replace(value) {
         None => Ok(()),
@@ -209,10 +232,17 @@ fn set_once<T>(slot: &mut Option<T>, name: &str, value: T) -> Result<(), String>
     }
 }
 
-fn address(word: &str) -> Result<u32, String> {
-    Ipv4Addr::from_str(word)
-        .map(u32::from)
-        .map_err(|_| format!("`{word}` is no IPv4 address"))
+/// An address as people write it; only an IPv6 one has a colon.
+fn address(word: &str) -> Result<Address, String> {
+    if word.contains(':') {
+        Ipv6Addr::from_str(word)
+            .map(|address| Address::V6(address.into()))
+            .map_err(|_| format!("`{word}` is no IPv6 address"))
+    } else {
+        Ipv4Addr::from_str(word)
+            .map(|address| Address::V4(address.into()))
+            .map_err(|_| format!("`{word}` is no IPv4 or IPv6 address"))
+    }
 }
 
 fn decimal<T: FromStr>(word: &str) -> Result<T, String> {

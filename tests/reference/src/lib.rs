@@ -5,9 +5,10 @@
 //! and prefers the plainest form of each rule to a quick one: the table is a sorted `Vec`, the
 //! CRC goes bit by bit, the weight is computed over numbers that cannot run over.
 //!
-//! One module for each section of document 01:
+//! One module for each section of document 01, and one for addresses:
 //!
 //! - `refusal`: the refusal numbers
+//! - `address`: addresses of both families, and their order
 //! - `esi`: the segment identifier, and its text of 29 characters
 //! - `route`: the Ethernet Segment route
 //! - `community`: the DF Election Extended Community
@@ -20,6 +21,7 @@
 
 #![forbid(unsafe_code)]
 
+pub mod address;
 pub mod bench;
 pub mod community;
 pub mod election;

@@ -1,5 +1,6 @@
 //! The preference a returning router advertises. Document 01, "The returning router".
 
+use crate::address::Address;
 use crate::community::{uses_preference, LOWEST_PREFERENCE};
 use crate::election::by_preference;
 use crate::refusal::Refusal;
@@ -15,14 +16,14 @@ pub struct Advertised {
 /// What the router sends. Algorithm not 2 or 3, 15; then address zero, 6.
 pub fn advertise(
     table: &Table,
-    own_address: u32,
+    own_address: Address,
     own_algorithm: u8,
     administrative: Advertised,
 ) -> Result<Advertised, Refusal> {
     if !uses_preference(own_algorithm) {
         return Err(Refusal::Algorithm);
     }
-    if own_address == 0 {
+    if own_address.is_zero() {
         return Err(Refusal::ZeroAddress);
     }
     let others: Vec<Entry> = table

@@ -1,5 +1,7 @@
-//! The routes of one segment, in rising address order. Document 01, "The table".
+//! The routes of one segment, in rising address order. Document 01, "The table"; document 02,
+//! M-105 (addresses of both families).
 
+use crate::address::Address;
 use crate::community;
 use crate::esi::{self, Esi, ESI_LENGTH};
 use crate::refusal::Refusal;
@@ -10,7 +12,7 @@ pub const MAX_ROUTES: usize = 64;
 /// One router: its address and what its community said.
 #[derive(Clone, Copy, Debug, PartialEq, Eq)]
 pub struct Entry {
-    pub address: u32,
+    pub address: Address,
     pub algorithm: u8,
     pub ac_df: bool,
     pub dp: bool,
@@ -49,7 +51,7 @@ impl Table {
     }
 
     /// Where the address stands, or the place where it would go.
-    fn place(&self, address: u32) -> Result<usize, usize> {
+    fn place(&self, address: Address) -> Result<usize, usize> {
         self.entries
             .binary_search_by_key(&address, |entry| entry.address)
     }
@@ -78,8 +80,8 @@ impl Table {
     }
 
     /// A withdrawal. Address zero, 6; address not present, 9.
-    pub fn withdraw(&mut self, address: u32) -> Result<(), Refusal> {
-        if address == 0 {
+    pub fn withdraw(&mut self, address: Address) -> Result<(), Refusal> {
+        if address.is_zero() {
             return Err(Refusal::ZeroAddress);
         }
         let place = self.place(address).map_err(|_| Refusal::NotPresent)?;

@@ -36,12 +36,13 @@ pub extern "C" fn benchmarks_mark() {
     black_box(());
 }
 
-/// Does every row's rounds once, with a mark before the first and after each: what is run below callgrind.
+/// Does every row's rounds, with a mark before the first and after each: what is run below callgrind. The first of each are not counted: they leave the
+/// heap as those that follow will find it.
 pub fn be_counted(rows: &[Row]) {
     benchmarks_mark();
     for row in rows {
         for side in &SIDES {
-            for factor in [1, 2] {
+            for factor in [1, 1, 2] {
                 (side.run)(&row.work, factor * rounds(row, COUNTED));
                 benchmarks_mark();
             }
@@ -65,6 +66,7 @@ pub fn counts(folder: &Path, rows: &[Row]) -> io::Result<Vec<Costs>> {
     for row in rows {
         let mut costs = [0.0; SIDES.len()];
         for cost in &mut costs {
+            next()?;
             *cost = of_a_call(row, rounds(row, COUNTED), next()?, next()?);
         }
         all.push(costs);

@@ -1,34 +1,45 @@
-//! The tables, in Markdown: what a call costs on each side, ours as a ratio of each other side's, and whether the target is met.
+//! The tables, in Markdown: what a call costs on each side, ours as a ratio of each other side's, and whether the target is met. A target by time is
+//! said in both tables and judged in that of times.
 
 use crate::cost::Costs;
 use crate::programs::Program;
-use crate::rows::{Row, Target};
+use crate::rows::{Measure, Row, Target};
 use crate::sides::SIDES;
+use benchmarks::workload::Families;
 
-/// A table of instructions, with the targets.
+/// A table of instructions.
 pub fn counts(rows: &[Row], counts: &[Costs]) {
-    heading(&["Call", "Routes"], "ins", &["Target", ""]);
-    for (row, costs) in rows.iter().zip(counts) {
-        let mut cells = start(row);
-        cells.extend(numbers(costs, 0));
-        cells.push(said(&row.target));
-        cells.push(verdict(&row.target, costs).into());
-        line(&cells);
-    }
-    let met = |(row, costs): &(&Row, &Costs)| verdict(&row.target, costs) == "met";
-    let all_met = rows.iter().zip(counts).filter(met).count();
-    println!("\nTargets met: {all_met} of {}.\n", rows.len());
+    table(rows, counts, Measure::Instructions);
 }
 
 /// A table of times.
 pub fn times(rows: &[Row], times: &[Costs]) {
-    heading(&["Call", "Routes"], "ns", &[]);
-    for (row, costs) in rows.iter().zip(times) {
+    table(rows, times, Measure::Time);
+}
+
+/// A table of what was measured. Targets are judged that are said in this measure.
+fn table(rows: &[Row], measured: &[Costs], measure: Measure) {
+    let (unit, places, word) = match measure {
+        Measure::Instructions => ("ins", 0, "instructions"),
+        Measure::Time => ("ns", 1, "time"),
+    };
+    heading(&["Call", "Addresses", "Routes"], unit, &["Target", ""]);
+    let (mut judged, mut met) = (0, 0);
+    for (row, costs) in rows.iter().zip(measured) {
         let mut cells = start(row);
-        cells.extend(numbers(costs, 1));
+        cells.extend(numbers(costs, places));
+        cells.push(said(&row.target));
+        if row.target.measure == measure {
+            let verdict = verdict(&row.target, costs);
+            judged += 1;
+            met += usize::from(verdict == "met");
+            cells.push(verdict.into());
+        } else {
+            cells.push(String::new());
+        }
         line(&cells);
     }
-    println!();
+    println!("\nTargets by {word} met: {met} of {judged}.\n");
 }
 
 pub fn programs(programs: &[Program]) {
@@ -55,14 +66,20 @@ pub fn programs(programs: &[Program]) {
     }
 }
 
+/// The names of the columns; routes and numbers stand to the right.
 fn heading(first: &[&str], unit: &str, last: &[&str]) {
     let mut names: Vec<String> = first.iter().map(|name| name.to_string()).collect();
     names.extend(SIDES.iter().map(|side| format!("{} {unit}", side.name)));
     names.extend(SIDES[1..].iter().map(|side| format!("ours/{}", side.name)));
     names.extend(last.iter().map(|name| name.to_string()));
     line(&names);
-    let right = first.len() - 1 + 2 * SIDES.len() - 1;
-    println!("|---|{}{}", "--:|".repeat(right), "---|".repeat(last.len()));
+    let right = 1 + 2 * SIDES.len() - 1;
+    println!(
+        "|{}{}{}",
+        "---|".repeat(first.len() - 1),
+        "--:|".repeat(right),
+        "---|".repeat(last.len())
+    );
 }
 
 fn line(cells: &[String]) {
@@ -70,8 +87,19 @@ fn line(cells: &[String]) {
 }
 
 fn start(row: &Row) -> Vec<String> {
-    let routes = row.routes.map_or(String::new(), |n| n.to_string());
-    vec![row.name.clone(), routes]
+    let (addresses, routes) = match row.table {
+        None => ("", String::new()),
+        Some(table) => (families(table.families), table.routes.to_string()),
+    };
+    vec![row.name.clone(), addresses.into(), routes]
+}
+
+fn families(families: Families) -> &'static str {
+    match families {
+        Families::V4 => "IPv4",
+        Families::V6 => "IPv6",
+        Families::Mixed => "mixed",
+    }
 }
 
 /// Each side's cost, and ours to each other side's.
@@ -84,15 +112,19 @@ fn numbers(costs: &Costs, places: usize) -> Vec<String> {
 }
 
 fn said(target: &Target) -> String {
-    let parts = SIDES[1..].iter().zip(target);
-    let parts = parts.filter_map(|(side, most)| Some(format!("{:.1} {}", (*most)?, side.name)));
-    parts.collect::<Vec<_>>().join(", ")
+    let parts = SIDES[1..].iter().zip(target.most);
+    let parts = parts.filter_map(|(side, most)| Some(format!("{:.1} {}", most?, side.name)));
+    let mut said = parts.collect::<Vec<_>>().join(", ");
+    if target.measure == Measure::Time {
+        said.push_str(" by time");
+    }
+    said
 }
 
 fn verdict(target: &Target, costs: &Costs) -> &'static str {
     let within =
         |(most, cost): (&Option<f64>, &f64)| most.is_none_or(|most| costs[0] / cost <= most);
-    if target.iter().zip(&costs[1..]).all(within) {
+    if target.most.iter().zip(&costs[1..]).all(within) {
         "met"
     } else {
         "missed"

@@ -1,33 +1,89 @@
-//! The rows of the table: a name, a number of routes, rounds of calls, and the most that ours may cost.
+//! The rows of the table: a name, the routes and their families, rounds of calls, and the most that ours may cost.
 
 use crate::sides::SIDES;
+use benchmarks::answer::Address;
 use benchmarks::random::Random;
 use benchmarks::rounds::Work;
-use benchmarks::workload::{self, ESI};
+use benchmarks::workload::{self, Families, ESI};
 
 const SIZES: [usize; 4] = [2, 3, 8, 64];
+const FAMILIES: [Families; 3] = [Families::V4, Families::V6, Families::Mixed];
+/// From so many routes on a new one, or one that goes, moves rows enough to be judged by time.
+const MANY: usize = 8;
 
-/// The most that ours may cost of what each other side costs, in instructions; none where nothing is asked.
-pub type Target = [Option<f64>; 2];
+#[derive(Clone, Copy, PartialEq, Eq)]
+pub enum Measure {
+    Instructions,
+    Time,
+}
 
-const EVERY_CALL: Target = [Some(1.3), Some(1.1)];
-const RARE_CALL: Target = [Some(1.3), None];
-const DIGEST: Target = [Some(1.6), None];
+/// The most that ours may cost of what each other side costs; none where nothing is asked.
+#[derive(Clone, Copy)]
+pub struct Target {
+    pub measure: Measure,
+    pub most: [Option<f64>; 2],
+}
+
+const fn by_instructions(of_array: f64, of_list: Option<f64>) -> Target {
+    Target {
+        measure: Measure::Instructions,
+        most: [Some(of_array), of_list],
+    }
+}
+
+const DIGEST: Target = by_instructions(1.6, None);
+/// Where rows of words move.
+const MOVED: Target = Target {
+    measure: Measure::Time,
+    most: [Some(1.6), Some(1.0)],
+};
+
+/// What every call is held to.
+fn every_call(families: Families) -> Target {
+    match families {
+        Families::V4 => by_instructions(1.3, Some(1.1)),
+        Families::V6 | Families::Mixed => by_instructions(1.5, None),
+    }
+}
+
+/// What the rare calls are held to, fresh and returning.
+fn rare_call(families: Families) -> Target {
+    match families {
+        Families::V4 => by_instructions(1.3, None),
+        Families::V6 | Families::Mixed => by_instructions(1.5, None),
+    }
+}
+
+/// What a call is held to that puts a row between others, or takes one out.
+fn moving_call(table: Table) -> Target {
+    if table.routes >= MANY {
+        MOVED
+    } else {
+        every_call(table.families)
+    }
+}
+
+/// How many routes a table has, and of which families.
+#[derive(Clone, Copy, Debug, PartialEq, Eq)]
+pub struct Table {
+    pub families: Families,
+    pub routes: usize,
+}
 
 pub struct Row {
     pub name: String,
-    /// None where the routes do not matter.
-    pub routes: Option<usize>,
+    /// None where the table does not matter.
+    pub table: Option<Table>,
     pub calls_in_round: usize,
     pub target: Target,
     pub work: Work,
 }
 
 /// A row of one call to a round.
-fn row(name: &str, routes: Option<usize>, target: Target, work: Work) -> Row {
+fn row(name: &str, table: Option<Table>, target: Target, work: Work) -> Row {
     Row {
         name: name.into(),
-        routes,
+        table,
         calls_in_round: 1,
         target,
         work,
@@ -37,96 +93,119 @@ fn row(name: &str, routes: Option<usize>, target: Target, work: Work) -> Row {
 /// Every answer of every round must be the same on all sides.
 pub fn check(rows: &[Row]) {
     for Row {
-        name, routes, work, ..
+        name, table, work, ..
     } in rows
     {
         for rounds in [0, 1, 577] {
             let expected = (SIDES[0].answers)(work, rounds);
             for side in &SIDES[1..] {
                 let same = (side.answers)(work, rounds) == expected;
-                assert!(
-                    same,
-                    "{name}, {routes:?} routes: {} answers otherwise",
-                    side.name
-                );
+                assert!(same, "{name}, {table:?}: {} answers otherwise", side.name);
             }
         }
     }
 }
 
 pub fn all() -> Vec<Row> {
-    let mut rows = vec![row("fresh", None, RARE_CALL, Work::Fresh)];
-    for routes in SIZES {
-        announcements(&mut rows, routes);
-        elections(&mut rows, routes);
-        returning(&mut rows, routes);
+    let mut rows = vec![
+        row("fresh", None, rare_call(Families::V4), Work::Fresh),
+        row("digest of a tag", None, DIGEST, Work::Digest),
+    ];
+    refused_early(&mut rows);
+    for families in FAMILIES {
+        for routes in SIZES {
+            let table = Table { families, routes };
+            announcements(&mut rows, table);
+            elections(&mut rows, table);
+            returning(&mut rows, table);
+        }
     }
-    rows.push(row("digest of a tag", None, DIGEST, Work::Digest));
-    // one kind of call after the other, each by size
+    // one kind of call after the other, each by families and then by size
     rows.sort_by_key(|row| row.name.clone());
     rows
 }
 
-fn announcements(rows: &mut Vec<Row>, routes: usize) {
+impl Table {
+    fn addresses(self, random: &mut Random) -> Vec<Address> {
+        workload::addresses(self.routes, self.families, random)
+    }
+}
+
+/// Announcements that are refused before the table is looked at.
+fn refused_early(rows: &mut Vec<Row>) {
     let mut random = Random(1);
-    let addresses = workload::addresses(routes, &mut random);
-    let strangers = workload::addresses(64, &mut Random(2));
+    let addresses = workload::addresses(64, Families::V4, &mut random);
+    let runs = workload::runs(&ESI, &addresses, 2, false, &mut random);
+    let mut push = |name, calls| {
+        let runs = runs.clone();
+        let work = Work::Announce { runs, calls };
+        rows.push(row(name, None, every_call(Families::V4), work));
+    };
+    let mut wrong_type = runs.clone();
+    wrong_type.iter_mut().for_each(|run| run.route[0] = 3);
+    push("announce, refused: 2, not type 4", wrong_type);
+    let elsewhere = workload::runs(&[0x55; 10], &addresses, 2, false, &mut random);
+    push("announce, refused: 5, another segment", elsewhere);
+}
+
+fn announcements(rows: &mut Vec<Row>, table: Table) {
+    let mut random = Random(1);
+    let addresses = table.addresses(&mut random);
+    let strangers = workload::addresses(64, table.families, &mut Random(2));
     let runs = workload::runs(&ESI, &addresses, 2, false, &mut random);
     let announce = |calls| Work::Announce {
         runs: runs.clone(),
         calls,
     };
     let replacing = workload::runs(&ESI, &addresses, 2, false, &mut random);
-    let elsewhere = workload::runs(&[0x55; 10], &addresses, 2, false, &mut random);
-    let mut wrong_type = runs.clone();
-    wrong_type.iter_mut().for_each(|run| run.route[0] = 3);
     let more = workload::runs(&ESI, &strangers, 2, false, &mut random);
 
-    let mut push = |name, work| rows.push(row(name, Some(routes), EVERY_CALL, work));
-    push("announce, replace", announce(replacing));
-    if routes == 64 {
-        push("announce, refused: 8, table full", announce(more));
+    let every_call = every_call(table.families);
+    let mut push = |name, target, work| rows.push(row(name, Some(table), target, work));
+    push("announce, replace", every_call, announce(replacing));
+    if table.routes == 64 {
+        push(
+            "announce, refused: 8, table full",
+            every_call,
+            announce(more),
+        );
     }
     push(
         "withdraw and announce again, the pair",
+        moving_call(table),
         Work::Again { runs: runs.clone() },
     );
     push(
         "withdraw, refused: 9, not present",
+        every_call,
         Work::Withdraw {
             runs: runs.clone(),
             addresses: strangers,
         },
     );
-    if routes == 64 {
-        // both are refused before the table is looked at
-        let mut push = |name, calls| rows.push(row(name, None, EVERY_CALL, announce(calls)));
-        push("announce, refused: 2, not type 4", wrong_type);
-        push("announce, refused: 5, another segment", elsewhere);
-    }
     rows.push(Row {
         name: "announce, new: a fresh table filled, per route".into(),
-        routes: Some(routes),
-        calls_in_round: routes,
-        target: EVERY_CALL,
+        table: Some(table),
+        calls_in_round: table.routes,
+        target: moving_call(table),
         work: Work::Fill { runs },
     });
 }
 
-fn elections(rows: &mut Vec<Row>, routes: usize) {
+fn elections(rows: &mut Vec<Row>, table: Table) {
     for algorithm in 0..4 {
         let mut random = Random(3);
-        let addresses = workload::addresses(routes, &mut random);
-        let mut push = |name: &str, ac_df, ready: &[u32]| {
+        let addresses = table.addresses(&mut random);
+        let mut push = |name: &str, ac_df, ready: &[Address]| {
             let work = Work::Elect {
                 runs: workload::runs(&ESI, &addresses, algorithm, ac_df, &mut Random(5)),
-                ready: ready.to_vec(),
+                ready: workload::rows(ready),
             };
             let name = format!("elect under {algorithm}{name}");
-            rows.push(row(&name, Some(routes), EVERY_CALL, work));
+            rows.push(row(&name, Some(table), every_call(table.families), work));
         };
         let mut rising = addresses.clone();
-        rising.sort();
+        workload::sort(&mut rising);
         let mut scattered = addresses.clone();
         random.shuffle(&mut scattered);
         push("", false, &rising);
@@ -135,15 +214,16 @@ fn elections(rows: &mut Vec<Row>, routes: usize) {
     }
 }
 
-fn returning(rows: &mut Vec<Row>, routes: usize) {
+fn returning(rows: &mut Vec<Row>, table: Table) {
     for algorithm in [2, 3] {
         let mut random = Random(4);
-        let addresses = workload::addresses(routes, &mut random);
+        let addresses = table.addresses(&mut random);
         let work = Work::Returning {
             runs: workload::runs(&ESI, &addresses, algorithm, false, &mut random),
+            families: table.families,
             algorithm,
         };
         let name = format!("returning under {algorithm}");
-        rows.push(row(&name, Some(routes), RARE_CALL, work));
+        rows.push(row(&name, Some(table), rare_call(table.families), work));
     }
 }

@@ -7,6 +7,8 @@
 //! announce 10.0.0.2 alg=2 pref=500 dp acdf   # with a community
 //! withdraw 10.0.0.1
 //! query 5 ready=10.0.0.1,10.0.0.2
+//! announce 2001:db8::1                       # an IPv6 router
+//! query 5 ready6=2001:db8::1
 //! raw D5 4F 03                               # octets as they are, for damage
 //! ```
 //!

@@ -1,6 +1,7 @@
 //! The bench program: lines, bad records, cut inputs and short reads.
 
 use crate::common::*;
+use reference::address::Address::{self, V4, V6};
 use reference::bench::run;
 use std::io::Read;
 
@@ -25,12 +26,21 @@ fn announcement(last: u8) -> Vec<u8> {
     record(1, &route_octets(&ESI, ten(last)))
 }
 
-fn query(tag: u32, ready: &[u32]) -> Vec<u8> {
+/// A query of kind 3 or 5.
+fn query_of_kind(kind: u8, tag: u32, ready: &[Address]) -> Vec<u8> {
     let mut body = tag.to_be_bytes().to_vec();
     for address in ready {
-        body.extend(address.to_be_bytes());
+        body.extend(address.octets());
     }
-    record(3, &body)
+    record(kind, &body)
+}
+
+fn query(tag: u32, ready: &[Address]) -> Vec<u8> {
+    query_of_kind(3, tag, ready)
+}
+
+fn v6_query(tag: u32, ready: &[Address]) -> Vec<u8> {
+    query_of_kind(5, tag, ready)
 }
 
 /// The output after the first record.
@@ -92,7 +102,7 @@ fn places_of_announcements() {
         changed(20, 31),
         changed(1, 22),
         record(1, &route_octets(&[0; 10], ten(1))),
-        record(1, &route_octets(&ESI, 0)),
+        record(1, &route_octets(&ESI, V4(0))),
         record(1, &route_octets(&OTHER_ESI, ten(1))),
         record(1, &odd_list),
         announcement(1),
@@ -124,7 +134,7 @@ fn every_kind_and_mark() {
         octets[2] = value;
         let expected = match value {
             2 => "p 0\nw 9\n",
-            3 => "p 0\nq 12\n",
+            3 | 5 => "p 0\nq 12\n",
             _ => "p 0\nx 16\n",
         };
         assert_eq!(after_first(&octets), expected);
@@ -160,6 +170,15 @@ fn every_length_of_every_kind() {
         let good = length >= 4 && length % 4 == 0;
         let expected = if good { "p 0\nq 10\n" } else { "p 0\nx 16\n" };
         assert_eq!(after_first(&record(3, &zeros)), expected);
+        let expected = if length == 16 {
+            "p 0\nw 6\n"
+        } else {
+            "p 0\nx 16\n"
+        };
+        assert_eq!(after_first(&record(4, &zeros)), expected);
+        let good = length >= 4 && length % 16 == 4;
+        let expected = if good { "p 0\nq 10\n" } else { "p 0\nx 16\n" };
+        assert_eq!(after_first(&record(5, &zeros)), expected);
     }
 }
 
@@ -174,6 +193,115 @@ fn community_lengths_in_a_record() {
             "p 0\na 7\n"
         };
         assert_eq!(after_first(&record(1, &body)), expected);
+    }
+}
+
+#[test]
+fn community_lengths_in_an_ipv6_record() {
+    for length in 0..=218usize {
+        let mut body = route_octets(&ESI, six(1));
+        body.extend(vec![0; length]);
+        let number = if length % 8 == 0 { 0 } else { 7 };
+        let expected = format!("p 0\na {number}\n");
+        assert_eq!(after_first(&record(1, &body)), expected);
+    }
+}
+
+/// Where octet 20 is 128 the route has 37 octets, and fewer are a bad record whatever the others
+/// say; where it is anything else the first 25 octets are the route.
+#[test]
+fn every_length_of_an_ipv6_announcement() {
+    let mut octets = route_octets(&ESI, six(1));
+    octets.extend(community_octets(2, false, false, 5));
+    for (place, value, refused) in [(0, 4, "0"), (0, 9, "2 0"), (1, 23, "1 1")] {
+        octets[..2].copy_from_slice(&[4, 35]);
+        octets[place] = value;
+        for length in 0..octets.len() {
+            let expected = match length {
+                0..37 => "p 0\nx 16\n".to_string(),
+                37 => format!("p 0\na {refused}\n"),
+                _ if refused == "0" => "p 0\na 7\n".to_string(),
+                _ => format!("p 0\na {refused}\n"),
+            };
+            assert_eq!(after_first(&record(1, &octets[..length])), expected);
+        }
+    }
+}
+
+/// The 37 octets with another address length: 25 of them are the route, and 12 are communities.
+#[test]
+fn octet_twenty_says_where_the_communities_start() {
+    for value in 0..=255 {
+        let mut octets = route_octets(&ESI, six(1));
+        octets[20] = value;
+        let expected = match value {
+            32 => "p 0\na 1 1\n",
+            128 => "p 0\na 0\n",
+            _ => "p 0\na 3 20\n",
+        };
+        assert_eq!(after_first(&record(1, &octets)), expected);
+        octets[1] = 23;
+        let expected = match value {
+            32 => "p 0\na 7\n",
+            128 => "p 0\na 1 1\n",
+            _ => "p 0\na 3 20\n",
+        };
+        assert_eq!(after_first(&record(1, &octets)), expected);
+    }
+}
+
+/// An IPv6 router comes, is elected and goes; it prints as 32 lower-case hex digits.
+#[test]
+fn ipv6_routers() {
+    let address = V6(0xFE80_0000_0000_0000_0A0B_0C0D_0E0F_0001);
+    let rest = [
+        record(1, &route_octets(&ESI, address)),
+        announcement(1),
+        query(4, &[]),
+        query(5, &[]),
+        v6_query(5, &[]),
+        record(2, &[10, 0, 0, 1]),
+        v6_query(4, &[address]),
+        record(4, &address.octets()),
+        record(4, &address.octets()),
+        record(1, &route_octets(&ESI, V6(0))),
+    ];
+    assert_eq!(
+        after_first(&rest.concat()),
+        "p 0\na 0\na 0\nq 0 10.0.0.1 2\n\
+         q 0 fe800000000000000a0b0c0d0e0f0001 2\n\
+         q 0 fe800000000000000a0b0c0d0e0f0001 2\n\
+         w 0\nq 0 fe800000000000000a0b0c0d0e0f0001 1\nw 0\nw 9\na 6 21\n"
+    );
+}
+
+/// Kind 3 lists only IPv4 routers as ready, kind 5 only IPv6 ones.
+#[test]
+fn a_query_lists_one_family() {
+    let acdf = community_octets(0, true, false, 0);
+    let announced = |address: Address| {
+        let mut body = route_octets(&ESI, address);
+        body.extend(&acdf);
+        record(1, &body)
+    };
+    let twin = V6(0x0A00_0001);
+    let mut four_and_six = announced(ten(1));
+    four_and_six.extend(announced(twin));
+    let asked = |query: Vec<u8>| after_first(&[four_and_six.clone(), query].concat());
+    let six_printed = "0000000000000000000000000a000001";
+    for (query, line) in [
+        (query(1, &[ten(1)]), "q 0 10.0.0.1 1".to_string()),
+        (v6_query(1, &[twin]), format!("q 0 {six_printed} 1")),
+        (v6_query(1, &[]), "q 12".to_string()),
+        (query(1, &[]), "q 12".to_string()),
+        (
+            query(1, &[V4(0), V4(0), V4(0), V4(0x0A00_0001)]),
+            "q 0 10.0.0.1 1".to_string(),
+        ),
+        (v6_query(1, &[V6(0x0A00_0001 << 96)]), "q 12".to_string()),
+        (v6_query(1, &[twin; 15]), format!("q 0 {six_printed} 1")),
+    ] {
+        assert_eq!(asked(query), format!("p 0\na 0\na 0\n{line}\n"));
     }
 }
 
@@ -213,7 +341,7 @@ fn stray_octets_at_the_end() {
 
 #[test]
 fn refused_calls_print_their_number_and_go_on() {
-    let zero = record(1, &route_octets(&ESI, 0));
+    let zero = record(1, &route_octets(&ESI, V4(0)));
     let other = record(1, &route_octets(&OTHER_ESI, ten(1)));
     let absent = record(2, &[10, 0, 0, 1]);
     let rest = [

@@ -1,5 +1,6 @@
 //! What the tests share: one segment, its routes and communities, and quick calls.
 
+use reference::address::Address::{self, V4, V6};
 use reference::community::{self, Community};
 use reference::election::{elect, Election};
 use reference::refusal::Refusal;
@@ -10,16 +11,33 @@ pub const OTHER_ESI: [u8; 10] = [0x00, 0x11, 0x22, 0x33, 0x44, 0x55, 0x66, 0x77,
 pub const ESI_TEXT: &[u8] = b"00:11:22:33:44:55:66:77:88:99";
 
 /// The address 10.0.0.`last`.
-pub fn ten(last: u8) -> u32 {
-    u32::from_be_bytes([10, 0, 0, last])
+pub fn ten(last: u8) -> Address {
+    V4(u32::from_be_bytes([10, 0, 0, last]))
 }
 
-/// The 25 octets of a route, written out by hand and unchecked.
-pub fn route_octets(esi: &[u8; 10], address: u32) -> Vec<u8> {
-    let mut octets = vec![4, 23, 1, 2, 3, 4, 5, 6, 7, 8];
+/// The address 2001:db8::`last`.
+pub fn six(last: u8) -> Address {
+    V6(0x2001_0DB8 << 96 | u128::from(last))
+}
+
+/// The IPv4-mapped address of an IPv4 number: ::ffff:a.b.c.d.
+pub fn mapped(number: u32) -> Address {
+    V6(0xFFFF_0000_0000 | u128::from(number))
+}
+
+/// The octets of a route, 25 or 37, written out by hand and unchecked.
+pub fn route_octets(esi: &[u8; 10], address: Address) -> Vec<u8> {
+    let (rest, bits) = match address {
+        V4(_) => (23, 32),
+        V6(_) => (35, 128),
+    };
+    let mut octets = vec![4, rest, 1, 2, 3, 4, 5, 6, 7, 8];
     octets.extend(esi);
-    octets.push(32);
-    octets.extend(address.to_be_bytes());
+    octets.push(bits);
+    match address {
+        V4(number) => octets.extend(number.to_be_bytes()),
+        V6(number) => octets.extend(number.to_be_bytes()),
+    }
     octets
 }
 
@@ -38,13 +56,13 @@ pub fn fresh() -> Table {
 }
 
 /// Announces an address with one community.
-pub fn announce(table: &mut Table, address: u32, community: &[u8]) {
+pub fn announce(table: &mut Table, address: Address, community: &[u8]) {
     let answer = table.announce(&route_octets(&ESI, address), community);
     assert_eq!(answer, Ok(()));
 }
 
 /// A table of routes (address, algorithm, AC-DF, DP, preference).
-pub fn table_of(routes: &[(u32, u8, bool, bool, u16)]) -> Table {
+pub fn table_of(routes: &[(Address, u8, bool, bool, u16)]) -> Table {
     let mut table = fresh();
     for (address, algorithm, ac_df, dp, preference) in routes {
         let community = community_octets(*algorithm, *ac_df, *dp, *preference);
@@ -54,7 +72,7 @@ pub fn table_of(routes: &[(u32, u8, bool, bool, u16)]) -> Table {
 }
 
 /// A table of routes (address, preference, DP) that all carry one algorithm, without AC-DF.
-pub fn preference_table(algorithm: u8, routes: &[(u32, u16, bool)]) -> Table {
+pub fn preference_table(algorithm: u8, routes: &[(Address, u16, bool)]) -> Table {
     let full: Vec<_> = routes
         .iter()
         .map(|(address, preference, dp)| (*address, algorithm, false, *dp, *preference))
@@ -72,13 +90,13 @@ pub fn full_table() -> Table {
 }
 
 /// The elected address with an empty ready list.
-pub fn elected(table: &Table, tag: u32) -> Result<u32, Refusal> {
+pub fn elected(table: &Table, tag: u32) -> Result<Address, Refusal> {
     elect(table, tag, &[]).map(|election| election.address)
 }
 
 /// The whole answer of an election.
 pub fn answer(
-    address: u32,
+    address: Address,
     algorithm: u8,
     count: u32,
     candidates: u64,

@@ -1,7 +1,8 @@
 //! The election: checks, agreement, eligible routers, N and the candidate set.
 
 use crate::common::*;
-use reference::election::{algorithm_in_use, elect};
+use reference::address::Address::{self, V4, V6};
+use reference::election::{algorithm_in_use, elect, elect_rows};
 use reference::refusal::Refusal;
 
 /// Three routers that carry one algorithm and one AC-DF bit.
@@ -28,7 +29,7 @@ fn checks_in_order() {
 fn the_ready_list_is_counted_as_handed_in() {
     // Repeats and strangers count, even where AC-DF is not in use.
     let table = three(0, false);
-    for ready in [[ten(1); 65], [ten(99); 65], [0; 65]] {
+    for ready in [[ten(1); 65], [ten(99); 65], [V4(0); 65]] {
         assert_eq!(elect(&table, 1, &ready), Err(Refusal::ReadyLength));
         assert_eq!(elect(&table, 1, &ready[..64]), answer(ten(2), 0, 3, 0b111));
     }
@@ -113,8 +114,8 @@ fn ac_df_with_every_algorithm() {
     for algorithm in 0..=3 {
         let table = three(algorithm, true);
         assert_eq!(elect(&table, 1, &[]), Err(Refusal::NoEligible));
-        assert_eq!(elect(&table, 1, &[0, ten(9)]), Err(Refusal::NoEligible));
-        let ready = [ten(3), 0, ten(3), ten(9)];
+        assert_eq!(elect(&table, 1, &[V4(0), ten(9)]), Err(Refusal::NoEligible));
+        let ready = [ten(3), V4(0), ten(3), ten(9)];
         assert_eq!(
             elect(&table, 1, &ready),
             answer(ten(3), algorithm, 1, 0b100)
@@ -142,7 +143,7 @@ fn without_ac_df_the_ready_list_has_no_part() {
         let with_none = elect(&table, 8, &[]);
         assert!(with_none.is_ok());
         assert_eq!(elect(&table, 8, &[ten(1)]), with_none);
-        assert_eq!(elect(&table, 8, &[ten(77), 0]), with_none);
+        assert_eq!(elect(&table, 8, &[ten(77), V4(0)]), with_none);
     }
 }
 
@@ -155,7 +156,7 @@ fn sixty_four_candidates_fill_the_set() {
         .collect();
     let table = table_of(&routes);
     assert_eq!(elect(&table, 1, &[ten(64)]), answer(ten(64), 2, 1, 1 << 63));
-    let all: Vec<u32> = (1..=64).map(ten).collect();
+    let all: Vec<Address> = (1..=64).map(ten).collect();
     assert_eq!(elect(&table, 1, &all), answer(ten(1), 2, 64, u64::MAX));
 }
 
@@ -181,4 +182,121 @@ fn an_election_changes_nothing() {
     let _ = elect(&table, 1, &[]);
     let _ = elect(&table, 1, &[ten(1)]);
     assert_eq!(table, before);
+}
+
+/// A row of a ready list.
+fn row(address: Address) -> [u32; 5] {
+    let words: Vec<u32> = address
+        .sixteen()
+        .chunks_exact(4)
+        .map(|four| u32::from_be_bytes([four[0], four[1], four[2], four[3]]))
+        .collect();
+    let family = u32::from(address.family());
+    [family, words[0], words[1], words[2], words[3]]
+}
+
+fn rows(addresses: &[Address]) -> Vec<u32> {
+    addresses.iter().flat_map(|one| row(*one)).collect()
+}
+
+/// Two routers of each family that carry one algorithm and the AC-DF bit.
+fn both_families(algorithm: u8) -> reference::table::Table {
+    table_of(&[
+        (six(2), algorithm, true, false, 300),
+        (ten(2), algorithm, true, false, 100),
+        (six(1), algorithm, true, false, 100),
+        (ten(1), algorithm, true, false, 300),
+    ])
+}
+
+#[test]
+fn both_families_stand_in_one_order() {
+    let all = [six(1), ten(1), six(2), ten(2)];
+    for (tag, expected) in [(4, ten(1)), (5, ten(2)), (6, six(1)), (7, six(2))] {
+        let whole = answer(expected, 0, 4, 0b1111);
+        assert_eq!(elect(&both_families(0), tag, &all), whole);
+        assert_eq!(elect_rows(&both_families(0), tag, &rows(&all)), whole);
+    }
+    // Equal preferences: the IPv4 router is lower, though its number may be greater.
+    let table = preference_table(2, &[(V6(1), 5, false), (V4(u32::MAX), 5, false)]);
+    assert_eq!(elected(&table, 1), Ok(V4(u32::MAX)));
+}
+
+#[test]
+fn a_ready_list_of_both_families() {
+    let table = both_families(2);
+    for (ready, expected) in [
+        (&[six(2), ten(2)][..], answer(six(2), 2, 2, 0b1010)),
+        (&[six(1), ten(2)], answer(ten(2), 2, 2, 0b0110)),
+        (&[six(1)], answer(six(1), 2, 1, 0b0100)),
+        (&[six(9), V6(0)], Err(Refusal::NoEligible)),
+    ] {
+        assert_eq!(elect(&table, 3, ready), expected);
+        assert_eq!(elect_rows(&table, 3, &rows(ready)), expected);
+    }
+}
+
+/// An IPv4-mapped address is not its IPv4 twin, nor is the one whose first octets are the twin's.
+#[test]
+fn mapped_addresses_on_the_list_are_strangers() {
+    let table = table_of(&[(V4(0x0A00_0001), 0, true, false, 0)]);
+    for stranger in [mapped(0x0A00_0001), V6(0x0A00_0001), V6(0x0A00_0001 << 96)] {
+        let expected = Err(Refusal::NoEligible);
+        assert_eq!(elect(&table, 1, &[stranger]), expected);
+        assert_eq!(elect_rows(&table, 1, &rows(&[stranger])), expected);
+    }
+}
+
+#[test]
+fn rows_that_are_no_address_and_words_that_are_no_row() {
+    let table = table_of(&[(ten(1), 0, true, false, 0), (six(1), 0, true, false, 0)]);
+    let mut tail = row(ten(1));
+    tail[2..].fill(7);
+    assert_eq!(elect_rows(&table, 1, &tail), answer(ten(1), 0, 1, 0b01));
+    for family in [0, 1, 5, 7, u32::MAX] {
+        for good in [row(ten(1)), row(six(1))] {
+            let mut stranger = good;
+            stranger[0] = family;
+            let expected = Err(Refusal::NoEligible);
+            assert_eq!(elect_rows(&table, 1, &stranger), expected);
+        }
+    }
+    let listed = rows(&[ten(1), six(1)]);
+    for length in 0..=listed.len() {
+        let expected = match length / 5 {
+            0 => Err(Refusal::NoEligible),
+            1 => answer(ten(1), 0, 1, 0b01),
+            _ => answer(six(1), 0, 2, 0b11),
+        };
+        assert_eq!(elect_rows(&table, 1, &listed[..length]), expected);
+    }
+}
+
+/// 11 counts whole rows, strangers too.
+#[test]
+fn rows_are_counted() {
+    let table = both_families(0);
+    for one in [row(ten(1)), row(six(1)), [0; 5], [9; 5]] {
+        let list = one.repeat(65);
+        let long = Err(Refusal::ReadyLength);
+        assert_eq!(elect_rows(&table, 1, &list), long);
+        assert_eq!(elect_rows(&table, 0, &list), Err(Refusal::ReservedTag));
+        assert_ne!(elect_rows(&table, 1, &list[..324]), long);
+    }
+}
+
+#[test]
+fn sixty_four_routers_of_both_families() {
+    let fours = (1..=32).map(ten);
+    let sixes = (1..=32).map(six);
+    let all: Vec<Address> = sixes.chain(fours).collect();
+    let routes: Vec<_> = all.iter().map(|one| (*one, 0, true, false, 0)).collect();
+    let table = table_of(&routes);
+    for (tag, expected) in [(64, ten(1)), (95, ten(32)), (96, six(1)), (127, six(32))] {
+        let whole = answer(expected, 0, 64, u64::MAX);
+        assert_eq!(elect_rows(&table, tag, &rows(&all)), whole);
+    }
+    let upper = u64::MAX << 32;
+    let ready = rows(&all[..32]);
+    assert_eq!(elect_rows(&table, 33, &ready), answer(six(2), 0, 32, upper));
 }

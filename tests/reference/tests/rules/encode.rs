@@ -1,6 +1,7 @@
 //! The text form of records.
 
 use crate::common::*;
+use reference::address::Address;
 use reference::encode::Encoder;
 
 const ESI_LINE: &str = "plate 00:11:22:33:44:55:66:77:88:99";
@@ -14,7 +15,11 @@ fn line(text: &str) -> Result<Vec<u8>, String> {
 
 /// An announcement record of 10.0.0.1 with the zero distinguisher.
 fn announcement(communities: &[u8]) -> Vec<u8> {
-    let mut body = route_octets(&ESI, ten(1));
+    announcement_of(ten(1), communities)
+}
+
+fn announcement_of(address: Address, communities: &[u8]) -> Vec<u8> {
+    let mut body = route_octets(&ESI, address);
     body[2..10].fill(0);
     body.extend(communities);
     let mut octets = vec![0xD5, 0x4F, 1, body.len() as u8];
@@ -83,6 +88,84 @@ fn withdrawals_and_queries() {
     assert_eq!(line("query 5 ready="), line("query 5"));
 }
 
+/// The forms of RFC 4291, section 2.2, with the number that each says.
+const IPV6_FORMS: [(&str, u128); 19] = [
+    (
+        "ABCD:EF01:2345:6789:ABCD:EF01:2345:6789",
+        0xABCD_EF01_2345_6789_ABCD_EF01_2345_6789,
+    ),
+    (
+        "2001:DB8:0:0:8:800:200C:417A",
+        0x2001_0DB8_0000_0000_0008_0800_200C_417A,
+    ),
+    (
+        "2001:db8::8:800:200c:417a",
+        0x2001_0DB8_0000_0000_0008_0800_200C_417A,
+    ),
+    (
+        "2001:0db8:0000:0000:0008:0800:200c:417a",
+        0x2001_0DB8_0000_0000_0008_0800_200C_417A,
+    ),
+    ("FF01::101", 0xFF01_0000_0000_0000_0000_0000_0000_0101),
+    (
+        "FF01:0:0:0:0:0:0:101",
+        0xFF01_0000_0000_0000_0000_0000_0000_0101,
+    ),
+    ("::1", 1),
+    ("0:0:0:0:0:0:0:1", 1),
+    ("::", 0),
+    ("1::", 1 << 112),
+    ("1:2:3:4:5:6:7::", 0x0001_0002_0003_0004_0005_0006_0007_0000),
+    ("::2:3:4:5:6:7:8", 0x0000_0002_0003_0004_0005_0006_0007_0008),
+    ("1:2:3::5:6:7:8", 0x0001_0002_0003_0000_0005_0006_0007_0008),
+    ("0:0:0:0:0:0:13.1.68.3", 0x0D01_4403),
+    ("::13.1.68.3", 0x0D01_4403),
+    ("0:0:0:0:0:FFFF:129.144.52.38", 0xFFFF_8190_3426),
+    ("::FFFF:129.144.52.38", 0xFFFF_8190_3426),
+    (
+        "64:ff9b::10.0.0.1",
+        0x0064_FF9B_0000_0000_0000_0000_0A00_0001,
+    ),
+    ("fe80::1", 0xFE80_0000_0000_0000_0000_0000_0000_0001),
+];
+
+#[test]
+fn ipv6_addresses_as_people_write_them() {
+    for (text, number) in IPV6_FORMS {
+        let address = Address::V6(number);
+        let expected = Ok(announcement_of(address, &[]));
+        assert_eq!(line(&format!("announce {text}")), expected, "{text}");
+        let mut gone = vec![0xD5, 0x4F, 4, 16];
+        gone.extend(address.octets());
+        assert_eq!(line(&format!("withdraw {text}")), Ok(gone));
+        let mut asked = vec![0xD5, 0x4F, 5, 20, 0, 0, 0, 5];
+        asked.extend(address.octets());
+        assert_eq!(line(&format!("query 5 ready6={text}")), Ok(asked));
+    }
+}
+
+#[test]
+fn ipv6_announcements_with_options() {
+    let full = community_octets(2, true, true, 500);
+    assert_eq!(
+        line("announce 2001:db8::7 alg=2 pref=500 dp acdf"),
+        Ok(announcement_of(six(7), &full))
+    );
+}
+
+/// A list's name says its family, an empty one's too.
+#[test]
+fn lists_of_one_family() {
+    assert_eq!(line("query 5 ready="), line("query 5"));
+    assert_eq!(
+        line("query 5 ready6="),
+        Ok(vec![0xD5, 0x4F, 5, 4, 0, 0, 0, 5])
+    );
+    let list = |count: usize| format!("query 5 ready6={}", vec!["::2"; count].join(","));
+    assert_eq!(line(&list(15)).map(|octets| octets.len()), Ok(248));
+    assert!(line(&list(16)).is_err());
+}
+
 #[test]
 fn a_record_holds_sixty_two_ready_addresses() {
     let list = |count: usize| format!("query 5 ready={}", vec!["10.0.0.2"; count].join(","));
@@ -111,6 +194,32 @@ fn mistakes_are_named() {
         "query 4294967296",
         "query 5 10.0.0.1",
         "query 5 ready=10.0.0.1 10.0.0.2",
+        "query 5 ready=::1",
+        "query 5 ready6=10.0.0.1",
+        "query 5 ready6=::1,10.0.0.1",
+        "query 5 ready=10.0.0.1 ready6=::1",
+        "query 5 ready4=10.0.0.1",
+        "query 5 ready6",
+        "announce :",
+        "announce :::",
+        "announce 1::2::3",
+        "announce 1:2:3:4:5:6:7",
+        "announce 1:2:3:4:5:6:7:8:9",
+        "announce 1:2:3:4:5:6:7:8::",
+        "announce ::1:2:3:4:5:6:7:8",
+        "announce :1:2:3:4:5:6:7",
+        "announce 1:2:3:4:5:6:7:",
+        "announce 12345::",
+        "announce ::g",
+        "announce ::10.0.0",
+        "announce ::10.0.0.256",
+        "announce 10.0.0.1::",
+        "announce ::10.0.0.1:1",
+        "announce 1:2:3:4:5:6:7:10.0.0.1",
+        "announce fe80::1%eth0",
+        "announce [::1]",
+        "announce 2001:db8::/32",
+        "withdraw ::x",
         "raw 0",
         "raw 0x10",
     ] {

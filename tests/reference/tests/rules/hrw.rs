@@ -2,6 +2,7 @@
 //! apart, with another CRC-32.
 
 use crate::common::*;
+use reference::address::Address::{V4, V6};
 use reference::election::elect;
 use reference::hrw::{crc32, digest, weight};
 
@@ -52,10 +53,10 @@ fn weights_and_winners() {
 fn weights_stay_below_two_to_the_thirty_one() {
     for address in [0, 1, 0x7FFF_FFFF, 0x8000_0000, u32::MAX] {
         for digest in [0, 1, 0x4000_0000, 0x7FFF_FFFF] {
-            assert!(weight(address, digest) < 1 << 31);
+            assert!(weight(V4(address), digest) < 1 << 31);
             assert_eq!(
-                weight(address, digest),
-                weight(address ^ 0x8000_0000, digest)
+                weight(V4(address), digest),
+                weight(V4(address ^ 0x8000_0000), digest)
             );
         }
     }
@@ -70,4 +71,104 @@ fn a_ready_list_narrows_the_choice() {
         answer(ten(1), 1, 2, 0b011)
     );
     assert_eq!(elect(&table, 5, &[ten(2)]), answer(ten(2), 1, 1, 0b010));
+}
+
+/// An address, a digest, and the weight.
+const WEIGHTS_OF_IPV6: [(u128, u32, u32); 10] = [
+    (
+        0x0000_0000_0000_0000_0000_0000_0000_0000,
+        0x0000_0000,
+        1_406_932_606,
+    ),
+    (
+        0x0000_0000_0000_0000_0000_0000_0000_0001,
+        0x0000_0000,
+        377_401_575,
+    ),
+    (
+        0xFFFF_FFFF_FFFF_FFFF_FFFF_FFFF_FFFF_FFFF,
+        0x0000_0000,
+        288_979_989,
+    ),
+    (
+        0xFFFF_FFFF_FFFF_FFFF_FFFF_FFFF_FFFF_FFFF,
+        0x7FFF_FFFF,
+        755_013_104,
+    ),
+    (
+        0x2001_0DB8_0000_0000_0000_0000_0000_0001,
+        0x5816_CDB9,
+        2_104_092_268,
+    ),
+    (
+        0x0000_0000_0000_0000_0000_FFFF_0A00_0001,
+        0x68CF_BE3B,
+        1_648_691_474,
+    ),
+    (
+        0xCD61_3E30_D8F1_6ADF_91B7_584A_2265_B1F5,
+        0x61C3_5DE2,
+        1_777_883_777,
+    ),
+    (
+        0x7ED4_D57B_1E2F_EB89_414C_343C_1027_C4D1,
+        0x6167_37A2,
+        1_686_041_405,
+    ),
+    (
+        0x612E_7696_A6CE_CC1B_78E5_1061_7311_D8A3,
+        0x64F4_E30B,
+        1_427_863_304,
+    ),
+    (
+        0x0741_C7A8_7CE4_2C82_1807_2E8C_35BF_992D,
+        0x7258_3673,
+        1_913_286_006,
+    ),
+];
+
+/// The number of an IPv6 address has 128 bits. These numbers were computed apart, by whole numbers
+/// of any length.
+#[test]
+fn weights_of_ipv6_addresses() {
+    for (address, digest, expected) in WEIGHTS_OF_IPV6 {
+        assert_eq!(weight(V6(address), digest), expected, "{address:032x}");
+    }
+}
+
+/// Only the low 31 bits count, whatever stands above them and in either family.
+#[test]
+fn the_low_thirty_one_bits_decide_a_weight() {
+    for low in [0, 1, 0x0A00_0001, 0x7FFF_FFFF] {
+        for digest in [0, 1, 0x4000_0000, 0x7FFF_FFFF] {
+            let expected = weight(V4(low), digest);
+            for bit in 31..128 {
+                let number = u128::from(low) | 1 << bit;
+                assert_eq!(weight(V6(number), digest), expected, "bit {bit}");
+            }
+            let high = u128::MAX << 31 | u128::from(low);
+            assert_eq!(weight(V6(high), digest), expected);
+        }
+    }
+}
+
+/// Routers of both families that tie: the lowest address wins, so an IPv4 one before all others.
+#[test]
+fn ties_across_families() {
+    let tied = [
+        V6(u128::MAX << 31 | 0x0A00_0001),
+        mapped(0x0A00_0001),
+        V6(0x0A00_0001),
+        V4(0x8A00_0001),
+        V4(0x0A00_0001),
+    ];
+    for from in 0..tied.len() {
+        let mut rest = tied[from..].to_vec();
+        let routes: Vec<_> = rest.iter().map(|one| (*one, 1, false, false, 0)).collect();
+        let table = table_of(&routes);
+        rest.sort();
+        for tag in 1..50 {
+            assert_eq!(elected(&table, tag), Ok(rest[0]));
+        }
+    }
 }

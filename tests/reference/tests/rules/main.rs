@@ -1,6 +1,8 @@
 //! The tests of the reference: every value of document 01, the worked examples of RFC 9785,
-//! the slips the document names, the order of every list of checks, and lengths at their limits.
+//! the slips the document names, the order of every list of checks, lengths at their limits, and
+//! addresses of both families side by side.
 
+mod address;
 mod bench;
 mod common;
 mod community;

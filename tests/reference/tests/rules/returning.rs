@@ -1,6 +1,7 @@
 //! The returning router: checks and every way to its answer.
 
 use crate::common::*;
+use reference::address::Address::{V4, V6};
 use reference::refusal::Refusal;
 use reference::returning::{advertise, Advertised};
 use reference::table::Table;
@@ -25,7 +26,7 @@ fn checks_in_order() {
         } else {
             Refusal::Algorithm
         };
-        assert_eq!(advertise(&fresh(), 0, algorithm, own), Err(zero));
+        assert_eq!(advertise(&fresh(), V4(0), algorithm, own), Err(zero));
         let expected = if good {
             Ok(own)
         } else {
@@ -107,5 +108,32 @@ fn ac_df_has_no_part() {
             (ten(2), 2, bits & 2 == 2, true, 100),
         ]);
         assert_eq!(sent(&table, 2, 300, true), Ok((200, false)));
+    }
+}
+
+/// Own address and others of both families: a zero of either is 6, and a mapped twin is another.
+#[test]
+fn returning_routers_of_both_families() {
+    let own = Advertised {
+        preference: 300,
+        dp: true,
+    };
+    for zero in [V4(0), V6(0)] {
+        assert_eq!(advertise(&fresh(), zero, 2, own), Err(Refusal::ZeroAddress));
+        assert_eq!(advertise(&fresh(), zero, 1, own), Err(Refusal::Algorithm));
+    }
+    let sent = |table: &Table, address| advertise(table, address, 2, own);
+    let lowered = Advertised {
+        preference: 200,
+        dp: false,
+    };
+    let table = preference_table(2, &[(ten(3), 200, true)]);
+    assert_eq!(sent(&table, ten(3)), Ok(own));
+    assert_eq!(sent(&table, mapped(0x0A00_0003)), Ok(lowered));
+    assert_eq!(sent(&table, six(3)), Ok(lowered));
+    // Of equal preferences with DP alike the IPv4 router is the reference; its pair is the same.
+    let table = preference_table(2, &[(six(3), 200, true), (ten(3), 200, true)]);
+    for address in [six(3), ten(3), six(4)] {
+        assert_eq!(sent(&table, address), Ok(lowered));
     }
 }

@@ -1,6 +1,7 @@
 //! Document 01, "Slips that have cost us a night": one test for each.
 
 use crate::common::*;
+use reference::address::Address::V4;
 use reference::election::elect;
 
 #[test]
@@ -43,7 +44,7 @@ fn addresses_are_numbers_high_octet_first() {
         ([127, 255, 255, 255], [128, 0, 0, 0]),
     ];
     for (low, high) in pairs {
-        let (low, high) = (u32::from_be_bytes(low), u32::from_be_bytes(high));
+        let (low, high) = (V4(u32::from_be_bytes(low)), V4(u32::from_be_bytes(high)));
         let table = preference_table(0, &[(high, 0, false), (low, 0, false)]);
         assert_eq!(elected(&table, 2), Ok(low));
         assert_eq!(elected(&table, 3), Ok(high));

@@ -1,6 +1,7 @@
 //! The table: fresh, announce, withdraw.
 
 use crate::common::*;
+use reference::address::Address::{V4, V6};
 use reference::election::elect;
 use reference::refusal::Refusal;
 use reference::returning::{advertise, Advertised};
@@ -23,7 +24,7 @@ fn the_all_zero_table_stays_empty() {
     assert_eq!(table.announce(&zero_esi, &[]), Err(Refusal::ReservedEsi));
     let other = route_octets(&ESI, ten(1));
     assert_eq!(table.announce(&other, &[]), Err(Refusal::OtherSegment));
-    assert_eq!(table.withdraw(0), Err(Refusal::ZeroAddress));
+    assert_eq!(table.withdraw(V4(0)), Err(Refusal::ZeroAddress));
     assert_eq!(table.withdraw(ten(1)), Err(Refusal::NotPresent));
     assert_eq!(elect(&table, 1, &[]), Err(Refusal::NoEligible));
     let own = Advertised {
@@ -153,7 +154,7 @@ fn list_lengths_in_an_announcement() {
 #[test]
 fn withdrawals() {
     let mut table = full_table();
-    assert_eq!(table.withdraw(0), Err(Refusal::ZeroAddress));
+    assert_eq!(table.withdraw(V4(0)), Err(Refusal::ZeroAddress));
     assert_eq!(table.withdraw(ten(65)), Err(Refusal::NotPresent));
     assert_eq!(table.withdraw(ten(30)), Ok(()));
     assert_eq!(table.withdraw(ten(30)), Err(Refusal::NotPresent));
@@ -173,4 +174,52 @@ fn a_table_can_be_emptied_and_filled_again() {
         announce(&mut table, ten(last), &[]);
     }
     assert_eq!(table, full_table());
+}
+
+#[test]
+fn routers_of_both_families_stand_side_by_side() {
+    let addresses = [
+        V6(u128::MAX),
+        six(1),
+        mapped(0x0A00_0001),
+        V6(0x0A00_0001 << 96),
+        V6(0x0A00_0001),
+        V4(0x0A00_0001),
+        V4(u32::MAX),
+    ];
+    let mut table = fresh();
+    for address in addresses {
+        announce(&mut table, address, &[]);
+    }
+    let mut rising = addresses.to_vec();
+    rising.sort();
+    let stand = |table: &Table| -> Vec<_> { table.entries().iter().map(|e| e.address).collect() };
+    assert_eq!(stand(&table), rising);
+    for address in addresses {
+        assert_eq!(table.withdraw(address), Ok(()));
+        assert_eq!(table.withdraw(address), Err(Refusal::NotPresent));
+        rising.retain(|one| *one != address);
+        assert_eq!(stand(&table), rising);
+    }
+    assert_eq!(table, fresh());
+}
+
+#[test]
+fn an_ipv6_table_is_full_at_sixty_four() {
+    let mut table = full_table();
+    let route = route_octets(&ESI, six(1));
+    assert_eq!(table.announce(&route, &[]), Err(Refusal::TableFull));
+    assert_eq!(table.withdraw(V6(0)), Err(Refusal::ZeroAddress));
+    assert_eq!(
+        table.withdraw(mapped(0x0A00_0001)),
+        Err(Refusal::NotPresent)
+    );
+    for last in 1..=64 {
+        assert_eq!(table.withdraw(ten(last)), Ok(()));
+        announce(&mut table, six(last), &[]);
+        let more = route_octets(&ESI, ten(100));
+        assert_eq!(table.announce(&more, &[]), Err(Refusal::TableFull));
+    }
+    announce(&mut table, six(64), &[]);
+    assert_eq!(table.entries().len(), 64);
 }

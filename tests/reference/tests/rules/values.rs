@@ -1,6 +1,7 @@
 //! Document 01, "Values to hold against the definitions", in its order.
 
 use crate::common::*;
+use reference::address::Address::V4;
 use reference::community::{read_list, Community};
 use reference::election::elect;
 use reference::hrw::{crc32, weight};
@@ -9,8 +10,8 @@ use reference::returning::{advertise, Advertised};
 
 #[test]
 fn weights_of_address_zero() {
-    assert_eq!(weight(0, 0), 1_406_932_606);
-    assert_eq!(weight(0, 12_345), 12_345);
+    assert_eq!(weight(V4(0), 0), 1_406_932_606);
+    assert_eq!(weight(V4(0), 12_345), 12_345);
 }
 
 #[test]
@@ -20,13 +21,13 @@ fn crc_of_nine_digits() {
 
 #[test]
 fn addresses_that_differ_in_the_top_bit_tie() {
-    assert_eq!(weight(0x0A00_0001, 0), weight(0x8A00_0001, 0));
+    assert_eq!(weight(V4(0x0A00_0001), 0), weight(V4(0x8A00_0001), 0));
     let table = table_of(&[
-        (0x8A00_0001, 1, false, false, 0),
-        (0x0A00_0001, 1, false, false, 0),
+        (V4(0x8A00_0001), 1, false, false, 0),
+        (V4(0x0A00_0001), 1, false, false, 0),
     ]);
     for tag in 1..200 {
-        assert_eq!(elected(&table, tag), Ok(0x0A00_0001));
+        assert_eq!(elected(&table, tag), Ok(V4(0x0A00_0001)));
     }
 }
 
