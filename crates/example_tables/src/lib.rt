@@ -1,4 +1,6 @@
 // The tables of the programs that run outside values, all of one segment: router n has the address 10.0.0.n.
+use address::Address;
+use address::Family;
 use table::WORDS;
 ghost use Rattle.layout.specs.Words.{Valid};
 
@@ -8,6 +10,17 @@ const NETWORK: u32 = 0x0A000000;
 // The segment of all examples.
 fn identifier() -> [u8; 10] {
     [0x00, 0x11, 0x22, 0x33, 0x44, 0x55, 0x66, 0x77, 0x88, 0x99]
+}
+
+// The address of router n.
+pub fn router(n: u8) -> Address {
+    Address {
+        family: Family::V4,
+        w0: NETWORK + n as u32,
+        w1: 0,
+        w2: 0,
+        w3: 0,
+    }
 }
 
 // A table of one segment.
@@ -37,7 +50,7 @@ pub fn route_of(n: u8) -> [u8; 25] {
     let esi = identifier();
     let distinguisher = [0u8; 8];
     let mut octets = [0u8; 25];
-    route::write(&mut octets, &distinguisher, &esi, NETWORK + n as u32);
+    route::write(&mut octets, &distinguisher, &esi, router(n));
     octets
 }
 
@@ -73,7 +86,7 @@ pub fn without(t: Table, n: u8) -> Table
     ensures { λ r. ⌜ Valid (r .words) ⌝ }
 {
     let mut words = t.words;
-    segment::withdraw(&mut words, NETWORK + n as u32);
+    segment::withdraw(&mut words, router(n));
     Table { words: words }
 }
 
@@ -84,7 +97,8 @@ pub fn elected(t: Table, tag: u32) -> u64
     let none = [0u32; 1];
     let words = t.words;
     let answer = segment::elect(&words, tag, &none[..0]);
-    (answer.address % 256) as u64
+    let octets = answer.address;
+    octets[3] as u64
 }
 
 // The number that an election answers.

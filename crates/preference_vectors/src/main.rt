@@ -114,7 +114,13 @@ fn bandwidth() {
     show_number(b"4.1 (f): 500 lowered by 400", lost.preference as u64, 100);
     let vacant = without(first_segment(HIGHEST), 1);
     let words = vacant.words;
-    let sent = segment::returning(&words, 0x0A000001, HIGHEST, lost.preference, false);
+    let sent = segment::returning(
+        &words,
+        example_tables::router(1),
+        HIGHEST,
+        lost.preference,
+        false,
+    );
     show_pair(
         b"4.1 (f): vES1, Highest, PE1 sends",
         sent.preference,

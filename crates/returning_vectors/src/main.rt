@@ -15,7 +15,7 @@ fn returning_stays() {
     let mut t = with(empty_table(), 1, 2, 200, true);
     t = with(t, 2, 2, 100, true);
     let words = t.words;
-    let sent = segment::returning(&words, 0x0A000003, 2, 150, true);
+    let sent = segment::returning(&words, example_tables::router(3), 2, 150, true);
     show_pair(
         b"returning with (150, 1) to (200, 1) and (100, 1) under 2",
         sent.preference,
@@ -37,7 +37,7 @@ fn revertive() {
 fn non_revertive() {
     let failed = without(second_segment(HIGHEST, true), 3);
     let words = failed.words;
-    let sent = segment::returning(&words, 0x0A000003, HIGHEST, 300, true);
+    let sent = segment::returning(&words, example_tables::router(3), HIGHEST, 300, true);
     show_pair(
         b"4.3: PE3 back with (300, 1) sends",
         sent.preference,
