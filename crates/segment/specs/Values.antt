@@ -9,7 +9,7 @@ use mathlib.Core.List.{List, [], _∷_}
 use Rattle.lists.specs.Lists.{bit}
 use Rattle.octets.specs.Octets.{sameNumbers}
 use Rattle.community.specs.Community.{electionUnder, communityOctets, readCommunity}
-use Rattle.hrw.specs.Crc.{crc32Of}
+use Rattle.crc.specs.Crc.{crc32Of}
 use Rattle.hrw.specs.Weight.{weightOf}
 use Rattle.winner.specs.Winner.{elected}
 use Rattle.election.specs.Election.{electOf}
