@@ -14,7 +14,7 @@ use lib.Dec.{eqb}
 use lib.Bits.{bitXor, differ, xor-shifted, xor-mod, shifted-half, shifted-even}
 use Rattle.octets.specs.Octets.{octetsOf, stored}
 use Rattle.octets.proofs.Laws.{length-octets, stored-stored, stored-all}
-use Rattle.hrw.specs.Crc.{polynomial, crcBit, crcBits, crcOctet, crcOver, crc32Of}
+use Rattle.crc.specs.Crc.{polynomial, crcBit, crcBits, crcOctet, crcOver, crc32Of}
 use Rattle.hrw.specs.Weight.{digestOver, digestOf, weightOf}
 use Rattle.hrw.proofs.Xor.{bit, xor-half, xor-odd, xor-xor}
 

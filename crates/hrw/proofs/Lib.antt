@@ -1,4 +1,3 @@
 -- Laws on the CRC, the digest and the weight for the crates above, and what they rest on.
 mod Xor
-mod Arms
 pub mod Laws

@@ -6,7 +6,7 @@ use Prim.Native.Nat.{ℕ, _+_, _*_, _%_, _^_}
 use mathlib.Core.List.{List, _++_}
 use lib.Bits.{bitXor}
 use Rattle.octets.specs.Octets.{octetsOf}
-use Rattle.hrw.specs.Crc.{crc32Of}
+use Rattle.crc.specs.Crc.{crc32Of}
 
 unfoldable pub digestOver : List ℕ → ℕ
 digestOver s = crc32Of s % 2 ^ 31

@@ -1,9 +1,7 @@
 // Highest random weight (HRW): CRC-32, the digest of an Ethernet Tag on a segment, and the weight of an address.
 ghost use mathlib.Core.Path.{_≡_};
-ghost use Rattle.hrw.specs.Crc.{crcOctet, crc32Of};
+ghost use Rattle.crc.specs.Crc.{crcOctet, crc32Of};
 ghost use Rattle.hrw.specs.Weight.{digestOf, weightOf};
-
-mod table;
 
 // The CRC register of 32 ones: a CRC starts from it, and is inverted by it at the end.
 const ALL_ONES: u32 = 0xFFFF_FFFF;
@@ -23,7 +21,7 @@ fn crc_octet(state: u32, x: u8) -> u32
     ensures { λ r. ⌜ r ≡ crcOctet state x ⌝ }
 {
     let mixed = state ^ (x as u32);
-    (mixed / 256) ^ table::after_octet((mixed % 256) as u8)
+    (mixed / 256) ^ crc::after_octet((mixed % 256) as u8)
 }
 
 // The CRC-32 of the octets of s.

@@ -9,7 +9,7 @@ use Rattle.keyed.specs.Keyed.{remove}
 use Rattle.community.specs.Community.{electionUnder, communityOctets, readCommunity}
 use Rattle.places.specs.Places.{setOf, picked}
 use Rattle.choice.specs.Choice.{best, bestOf}
-use Rattle.hrw.specs.Crc.{crcBit, crcBits, crcOctet, crcOver, crc32Of}
+use Rattle.crc.specs.Crc.{crcBit, crcBits, crcOctet, crcOver, crc32Of}
 use Rattle.hrw.specs.Weight.{weightOf}
 use Rattle.agreement.specs.Agreement.{allCarry, inUse}
 use Rattle.ready.specs.Ready.{onList, eligible, candidates, candidateSet}

@@ -12,7 +12,7 @@ use lib.ListN.{replicate}
 use Rattle.octets.specs.Octets.{sameNumbers}
 use Rattle.address.specs.Address.{addressNumber}
 use Rattle.community.specs.Community.{electionUnder, communityOctets, readCommunity}
-use Rattle.hrw.specs.Crc.{crc32Of}
+use Rattle.crc.specs.Crc.{crc32Of}
 use Rattle.hrw.specs.Weight.{weightOf}
 use Rattle.winner.specs.Winner.{elected}
 use Rattle.election.specs.Election.{electOf}

@@ -5,7 +5,7 @@ use mathlib.Core.Path.{_≡_, refl, _∙_, sym, ap}
 use borrow.Author.Needs.{needs}
 use lib.ListN.{length, drop}
 use lib.Bits.{bitXor}
-use Rattle.hrw.specs.Crc.{allOnes, crcOver, crc32Of}
+use Rattle.crc.specs.Crc.{allOnes, crcOver, crc32Of}
 use Rattle.hrw.proofs.Laws.{crcOver-next, crcOver-end}
 use Rattle.hrw.proofs.crc32.Statement.{statement}
 use Rattle.hrw.proofs.crc32.Tie as tie

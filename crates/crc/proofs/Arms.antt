@@ -2,7 +2,7 @@
 use Prim.Native.Nat.{ℕ, zero, suc, _≤_, _<_, zero-le}
 use native.Mathlib.Omega.{arith}
 use mathlib.Core.Path.{_≡_, ap, sym}
-use Rattle.hrw.specs.Crc.{crcOctet}
+use Rattle.crc.specs.Crc.{crcOctet}
 
 -- the arm that is taken for j
 pub arm : {x j : ℕ} → x ≡ j → crcOctet 0 j ≡ crcOctet 0 x

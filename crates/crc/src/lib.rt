@@ -1,7 +1,7 @@
 // What an octet makes of an empty CRC register, the CRC table of IEEE 802.3. A `match` on a number becomes one load from a table that is not laid out again at
 // each call, as a constant array would be.
 ghost use mathlib.Core.Path.{_≡_};
-ghost use Rattle.hrw.specs.Crc.{crcOctet};
+ghost use Rattle.crc.specs.Crc.{crcOctet};
 
 // The CRC register after the octet x, from the register 0.
 pub fn after_octet(x: u8) -> u32

@@ -1,8 +1,8 @@
 -- `after_octet` meets its contract: each arm is the register that its octet gives, computed. Assumes nothing.
-use Rattle.hrw.specs.Crc.{crcBit, crcBits, crcOctet}
-use Rattle.hrw.proofs.Arms.{arm, last-arm}
-use Rattle.hrw.proofs.table.after_octet.Statement.{statement}
-use Rattle.hrw.proofs.table.after_octet.Tie as tie
+use Rattle.crc.specs.Crc.{crcBit, crcBits, crcOctet}
+use Rattle.crc.proofs.Arms.{arm, last-arm}
+use Rattle.crc.proofs.after_octet.Statement.{statement}
+use Rattle.crc.proofs.after_octet.Tie as tie
 
 pub after-octet-spec : {M : Type 1} → statement M
 unfolding crcBit crcBits crcOctet
