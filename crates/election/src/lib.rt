@@ -66,9 +66,9 @@ fn elect_accepted(t: &[u32], tag: u32, ready: &[u32]) -> Answer
     }
     let digest = digest_under(t, algorithm, tag);
     let at = winner::elected_place(t, set, algorithm, tag, digest);
+    let n = places::count(set);
     let family = layout::family_at(t, at);
     let address = layout::octets_at(t, at);
-    let n = places::count(set);
     Answer {
         number: 0,
         family: family,

@@ -33,10 +33,10 @@ elected-place-requires c κs =
 
 returns-2 : tie.Need-returns-2
 returns-2 c =
-    let counted = c in
-    let told = counted .before in
+    let told = c in
     let known = told .before in
-    let placed = known .before in
+    let counted = known .before in
+    let placed = counted .before in
     let digested = placed .before in
     let tested = digested .before in
     let j = tested .before in
