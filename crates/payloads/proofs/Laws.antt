@@ -18,14 +18,6 @@ use Rattle.payloads.specs.Payloads.{sizeOf, addressOf, addressesIn}
 
 -- ---- one address
 
-pub size-six : sizeOf true ≡ 16
-unfolding sizeOf
-size-six = refl
-
-pub size-four : sizeOf false ≡ 4
-unfolding sizeOf
-size-four = refl
-
 -- the word k of the piece of n octets at an offset
 module _ (s : List ℕ) (at n : ℕ) (h : at + n ≤ length s) where
   abbrev piece : List ℕ
