@@ -53,14 +53,14 @@ pub struct Verdict {
     pub place: usize,
 }
 
-/// The whole answer of an election: 0 and the elected, or a refusal number and zeros. The family is 4 or 6; an IPv4 address is the first four octets,
-/// and then come zeros.
+/// The whole answer of an election: 0 and the elected, or a refusal number and zeros. The family is 4 or 6; the sixteen octets are four words, an IPv4
+/// address the first of them, and then come zeros.
 #[repr(C)]
 #[derive(Clone, Copy, Debug, Default, PartialEq, Eq)]
 pub struct Answer {
     pub number: u8,
     pub family: u8,
-    pub address: [u8; 16],
+    pub address: [u32; 4],
     pub algorithm: u8,
     pub n: u32,
     pub candidates: u64,

@@ -43,12 +43,12 @@ impl Number {
         }
     }
 
-    /// The family and the octets that an answer has.
+    /// The family and the four words that an answer has.
     #[inline]
-    pub fn answered(self) -> (u8, [u8; 16]) {
+    pub fn answered(self) -> (u8, [u32; 4]) {
         match self {
-            Number::V4(number) => (4, (u128::from(number) << 96).to_be_bytes()),
-            Number::V6(number) => (6, number.to_be_bytes()),
+            Number::V4(number) => (4, [number, 0, 0, 0]),
+            Number::V6(number) => (6, [96, 64, 32, 0].map(|low| (number >> low) as u32)),
         }
     }
 }

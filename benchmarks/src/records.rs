@@ -146,7 +146,7 @@ impl<T: Segment> Bench<T> {
         if answer.family == 6 {
             lines.hex(&answer.address, b' ');
         } else {
-            let [a, b, c, d, ..] = answer.address;
+            let [a, b, c, d] = answer.address[0].to_be_bytes();
             lines.number(a, b'.');
             lines.number(b, b'.');
             lines.number(c, b'.');
@@ -217,12 +217,13 @@ impl Lines {
         self.filled += length + 1;
     }
 
-    /// Octets in hex, and the character behind them.
+    /// The octets of words in hex, and the character behind them.
     #[inline]
-    fn hex(&mut self, octets: &[u8; 16], end: u8) {
+    fn hex(&mut self, words: &[u32; 4], end: u8) {
         let room = &mut self.octets[self.filled..][..33];
+        let octets = words.iter().flat_map(|word| word.to_be_bytes());
         for (pair, octet) in room.chunks_exact_mut(2).zip(octets) {
-            pair.copy_from_slice(&HEX[usize::from(*octet)]);
+            pair.copy_from_slice(&HEX[usize::from(octet)]);
         }
         room[32] = end;
         self.filled += 33;

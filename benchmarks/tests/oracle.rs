@@ -27,13 +27,19 @@ fn ours(address: address::Address) -> Address {
     }
 }
 
+/// The sixteen octets of an address as the four words of an answer.
+fn words(address: address::Address) -> [u32; 4] {
+    let octets = address.sixteen();
+    [0, 4, 8, 12].map(|at| u32::from_be_bytes(octets[at..at + 4].try_into().expect("four octets")))
+}
+
 /// The reference's election as the whole answer.
 fn elect(table: &Table, tag: u32, ready: &[u32]) -> Answer {
     match election::elect_rows(table, tag, ready) {
         Ok(elected) => Answer {
             number: 0,
             family: elected.address.family(),
-            address: elected.address.sixteen(),
+            address: words(elected.address),
             algorithm: elected.algorithm,
             n: elected.count,
             candidates: elected.candidates,
@@ -300,7 +306,7 @@ fn list_is_right() {
 /// Routes of both families that tie under algorithm 1: the lowest address wins on every side.
 #[test]
 fn ties_go_to_the_lowest_address() {
-    fn winner<T: Segment>(addresses: &[Address]) -> (u8, [u8; 16]) {
+    fn winner<T: Segment>(addresses: &[Address]) -> (u8, [u32; 4]) {
         let mut table = T::empty();
         assert_eq!(table.fresh(&workload::ESI), 0);
         for address in addresses {
@@ -320,7 +326,7 @@ fn ties_go_to_the_lowest_address() {
     // each is lower than those before it
     let lowest = tied.map(theirs);
     for n in 1..=tied.len() {
-        let expected = (lowest[n - 1].family(), lowest[n - 1].sixteen());
+        let expected = (lowest[n - 1].family(), words(lowest[n - 1]));
         assert_eq!(winner::<proved::Table>(&tied[..n]), expected);
         assert_eq!(winner::<array::Table>(&tied[..n]), expected);
         assert_eq!(winner::<list::List>(&tied[..n]), expected);

@@ -31,6 +31,11 @@ octets-power [] = refl
 octets-power (w ∷ r) =
     rw (length-append (octetsOf 4 w) (octetsIn r), length-octets 4 w, pow-add 256 4 (length (octetsIn r)), octets-power r, pow-succ' base (length r))
 
+pub length-octets-in : (r : List ℕ) → length (octetsIn r) ≡ 4 * length r
+unfolding octetsIn
+length-octets-in [] = refl
+length-octets-in (w ∷ r) = length-append (octetsOf 4 w) (octetsIn r) ∙ omega (arith, length-octets 4 w, length-octets-in r)
+
 number-none : numberOf [] ≡ 0
 unfolding numberOf
 number-none = refl

@@ -3,7 +3,8 @@
 --   addressRow a       == the address a, which is handed in, as a row: in an IPv4 one the words after the first don't count
 --   IsAddress r        == the row r is an address
 --   octetsIn r         == the octets of the words r, four to a word
---   familyOf r, octetsOfAddress r == the family of the address r, as a number, and its sixteen octets
+--   familyOf r, addressWords r == the family of the address r, as a number, and its sixteen octets as four words
+--   octetsOfAddress r  == its sixteen octets
 --   addressKey r       == the number that addresses are ordered by. It is the one that the 17 octets of the address make, the family first (`SeventeenOctets`),
 --                         so every IPv4 address is lower than every IPv6 one, and within a family addresses order as numbers
 --   SeventeenOctets r  == that
@@ -38,6 +39,9 @@ octetsIn (w ∷ r) = octetsOf 4 w ++ octetsIn r
 
 unfoldable pub familyOf : List ℕ → ℕ
 familyOf r = getD r 0 0
+
+unfoldable pub addressWords : List ℕ → List ℕ
+addressWords r = drop 1 r
 
 unfoldable pub octetsOfAddress : List ℕ → List ℕ
 octetsOfAddress r = octetsIn (drop 1 r)

@@ -6,13 +6,16 @@ use native.Mathlib.Omega.{arith}
 use mathlib.Core.Path.{_≡_, ap, _∙_, sym, subst}
 use mathlib.Core.Bool.{true, false}
 use mathlib.Core.List.{List, [], _∷_, _++_, append-nil}
-use lib.ListN.{length, take, length-append, take-append-drop}
-use lib.Seq.{length-take-le}
+use lib.ListN.{length, getD, length-append, take-append-drop}
+use lib.Seq.{take-all}
 use lib.Dec.{eqb}
 use borrow.Author.Tests.{eq-eqb, ne-eqb, le-leb, lt-leb}
 use Rattle.election.specs.declared.Answer.{Answer}
 use Rattle.lists.proofs.Bools.{cond-by}
-use Rattle.octets.proofs.Laws.{Octets, octets-take, elements, take-elements, stored-fits}
+use Rattle.octets.specs.Octets.{octetsOf}
+use Rattle.octets.proofs.Laws.{octets-octets, length-octets, elements, take-elements, stored-fits}
+use Rattle.address.specs.Address.{octetsIn}
+use Rattle.address.proofs.Laws.{length-octets-in}
 use Rattle.lines.specs.Lines.{decimal, dotted, hex, Put}
 use Rattle.lines.proofs.Laws.{put-position, put-all, length-decimal, length-decimal-octet, length-dots, length-hex}
 use Rattle.answer_lines.specs.AnswerLines.{line, offsetLine, hasOffset, readLine, addressText, electedLine, queryLine, Written}
@@ -65,26 +68,26 @@ pub read-none : (c n p : ℕ) → hasOffset n ≡ false → line c n ≡ readLin
 unfolding readLine
 read-none c n p h = rw h
 
-length-text : (f : ℕ) (a : List ℕ) → length a ≡ 16 → Octets a → length (addressText f a) ≤ 32
+length-text : (f : ℕ) (a : List ℕ) → length a ≡ 4 → length (addressText f a) ≤ 32
 unfolding addressText
-length-text f a n o =
+length-text f a n =
     cond-by (λ (s : List ℕ). length s ≤ 32) (eqb f 6)
-    (λ _. omega (arith, length-hex a))
-    (λ _. omega (arith, length-dots (take 4 a) (octets-take 4 a o), length-take-le 4 a (omega arith)))
+    (λ _. omega (arith, length-hex (octetsIn a), length-octets-in a))
+    (λ _. omega (arith, length-dots (octetsOf 4 (getD a 0 0)) (octets-octets 4 (getD a 0 0)), length-octets 4 (getD a 0 0)))
 
-pub length-elected : (f : ℕ) (a : List ℕ) (n : ℕ) → length a ≡ 16 → Octets a → n < 2 ^ 32 → length (electedLine f a n) ≤ 48
+pub length-elected : (f : ℕ) (a : List ℕ) (n : ℕ) → length a ≡ 4 → n < 2 ^ 32 → length (electedLine f a n) ≤ 48
 unfolding electedLine
-length-elected f a n l o h =
-    omega (arith, length-append (addressText f a) (32 ∷ decimal n ++ (10 ∷ [])), length-append (decimal n) (10 ∷ []), length-text f a l o, length-decimal 9 n (omega arith))
+length-elected f a n l h =
+    omega (arith, length-append (addressText f a) (32 ∷ decimal n ++ (10 ∷ [])), length-append (decimal n) (10 ∷ []), length-text f a l, length-decimal 9 n (omega arith))
 
 -- which form an address has
-pub text-six : (f : ℕ) (a : List ℕ) → f ≡ 6 → hex a ≡ addressText f a
+pub text-six : (f : ℕ) (a o : List ℕ) → f ≡ 6 → length a ≡ 4 → o ≡ octetsIn (getD a 0 0 ∷ getD a 1 0 ∷ getD a 2 0 ∷ getD a 3 0 ∷ []) → hex o ≡ addressText f a
 unfolding addressText
-text-six f a e = rw (eq-eqb f 6 e)
+text-six f a o e n q = rw (eq-eqb f 6 e) (ap hex (q ∙ ap octetsIn (sym (take-elements 4 0 a (omega arith)) ∙ take-all 4 a (omega arith))))
 
-pub text-four : (f : ℕ) (a : List ℕ) → (f ≡ 6 → ⊥) → 4 ≤ length a → dotted (elements 4 0 a) ≡ addressText f a
+pub text-four : (f : ℕ) (a o : List ℕ) → (f ≡ 6 → ⊥) → o ≡ octetsOf 4 (getD a 0 0) → dotted (elements 4 0 o) ≡ addressText f a
 unfolding addressText
-text-four f a n l = rw (ne-eqb f 6 n) (ap dotted (sym (take-elements 4 0 a l)))
+text-four f a o n q = rw (ne-eqb f 6 n) (ap dotted (sym (take-elements 4 0 o (omega (arith, ap length q, length-octets 4 (getD a 0 0)))) ∙ take-all 4 o (omega (arith, ap length q, length-octets 4 (getD a 0 0))) ∙ q))
 
 pub query-refused : (r : Answer) → (r .number ≡ 0 → ⊥) → line 113 (r .number) ≡ queryLine r
 unfolding queryLine

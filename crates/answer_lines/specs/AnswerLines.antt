@@ -5,7 +5,7 @@
 --   hasOffset n        == whether an offset is printed after the number n: after 1 to 4, 6 and 13 (document 02, M-103)
 --   readLine c n p     == the line of the letter c for what was read: the number n, and the offset p where one is printed
 --   badLine            == the line `x 16`
---   addressText f a    == how an address of the family f with the sixteen octets a is printed: IPv4 dotted, IPv6 as 32 hexadecimal digits (document 02, M-105)
+--   addressText f a    == how an address of the family f with the four words a is printed: IPv4 dotted, IPv6 as 32 hexadecimal digits (document 02, M-105)
 --   electedLine f a n  == the line of an accepted query
 --   queryLine r        == the line of the election's answer r
 --   Written d at s r e == the octets s, for which there was room, are put at position `at` of the buffer that held d, which then holds e; r is the
@@ -14,9 +14,10 @@ use Prim.Native.Nat.{ℕ, _+_, _≤_}
 use mathlib.Core.Path.{_≡_}
 use mathlib.Core.Bool.{Bool, cond, _&&_, _||_}
 use mathlib.Core.List.{List, [], _∷_, _++_}
-use lib.ListN.{length, take}
+use lib.ListN.{length, getD}
 use lib.Dec.{leb, eqb}
-use Rattle.octets.specs.Octets.{stored}
+use Rattle.octets.specs.Octets.{octetsOf, stored}
+use Rattle.address.specs.Address.{octetsIn}
 use Rattle.election.specs.declared.Answer.{Answer}
 use Rattle.lines.specs.Lines.{decimal, dotted, hex}
 
@@ -37,7 +38,7 @@ badLine = 120 ∷ 32 ∷ 49 ∷ 54 ∷ 10 ∷ []
 
 -- an accepted query adds the address and N
 unfoldable pub addressText : ℕ → List ℕ → List ℕ
-addressText f a = cond (eqb f 6) (hex a) (dotted (take 4 a))
+addressText f a = cond (eqb f 6) (hex (octetsIn a)) (dotted (octetsOf 4 (getD a 0 0)))
 
 unfoldable pub electedLine : ℕ → List ℕ → ℕ → List ℕ
 electedLine f a n = (113 ∷ 32 ∷ 48 ∷ 32 ∷ []) ++ (addressText f a ++ ((32 ∷ []) ++ (decimal n ++ (10 ∷ []))))

@@ -67,17 +67,19 @@ pub fn put_read(out: &mut [u8], at: usize, letter: u8, number: u8, offset: usize
 }
 
 // Puts an address: IPv4 dotted, IPv6 as 32 hexadecimal digits.
-fn put_address(out: &mut [u8], at: usize, family: u8, a: [u8; 16]) -> usize
+fn put_address(out: &mut [u8], at: usize, family: u8, a: [u32; 4]) -> usize
     ensures { λ r. ⌜ Put (now (out .entry)) at (addressText family a) r (now (out .exit)) ⌝ }
 {
     if family == 6 {
-        return lines::put_hex(out, at, a);
+        let octets = address::octets(a[0], a[1], a[2], a[3]);
+        return lines::put_hex(out, at, octets);
     }
-    lines::put_dotted(out, at, a[0], a[1], a[2], a[3])
+    let o = octets::of_u32(a[0]);
+    lines::put_dotted(out, at, o[0], o[1], o[2], o[3])
 }
 
 // Puts the line of an accepted query.
-fn put_elected(out: &mut [u8], at: usize, family: u8, address: [u8; 16], n: u32) -> usize
+fn put_elected(out: &mut [u8], at: usize, family: u8, address: [u32; 4], n: u32) -> usize
     requires { ⌜ at + 48 ≤ length (now out) ⌝ }
     ensures { λ r. ⌜ Written (now (out .entry)) at (electedLine family address n) r (now (out .exit)) ⌝ }
 {

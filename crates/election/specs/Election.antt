@@ -14,7 +14,7 @@ use mathlib.Core.Bool.{Bool, false, cond, _||_}
 use mathlib.Core.List.{List, [], List·Memᴰ}
 use lib.ListN.{length, getD, replicate}
 use lib.Dec.{ltb, eqb}
-use Rattle.address.specs.Address.{familyOf, octetsOfAddress}
+use Rattle.address.specs.Address.{familyOf, addressWords}
 use Rattle.layout.specs.Table.{Entry, noEntry}
 use Rattle.hrw.specs.Weight.{digestOf}
 use Rattle.agreement.specs.Agreement.{inUse}
@@ -26,7 +26,7 @@ use Rattle.election.specs.declared.Answer.{Answer}
 
 -- 10 for a reserved tag, 11 for a list over 64, 12 where no route is eligible
 abbrev pub refusedAnswer : ℕ → Answer
-refusedAnswer n = record { number = n; family = 0; address = replicate 16 0; algorithm = 0; n = 0; candidates = 0 }
+refusedAnswer n = record { number = n; family = 0; address = replicate 4 0; algorithm = 0; n = 0; candidates = 0 }
 
 unfoldable pub reservedTag : ℕ → Bool
 reservedTag tag = eqb tag 0 || eqb tag 4294967295
@@ -34,9 +34,9 @@ reservedTag tag = eqb tag 0 || eqb tag 4294967295
 abbrev pub candidatesOf : List Entry → List (List ℕ) → List Entry
 candidatesOf l ready = candidates (inUse l .«ac_df») ready l
 
--- the address is told as its family and its sixteen octets
+-- the address is told as its family and its sixteen octets, in four words
 abbrev pub namedAnswer : List ℕ → ℕ → ℕ → ℕ → Answer
-namedAnswer x a n set = record { number = 0; family = familyOf x; address = octetsOfAddress x; algorithm = a; n = n; candidates = set }
+namedAnswer x a n set = record { number = 0; family = familyOf x; address = addressWords x; algorithm = a; n = n; candidates = set }
 
 unfoldable pub answerOf : List ℕ → InUse → List Entry → ℕ → ℕ → Answer
 answerOf i u cs set tag =
@@ -58,7 +58,7 @@ NoneNamed l tag ready r =
 pub record Forwarder (i : List ℕ) (l : List Entry) (tag : ℕ) (ready : List (List ℕ)) (r : Answer) : Type 0 where
   pub entry : Entry
   pub family : r .family ≡ familyOf (entry .address)
-  pub address : r .address ≡ octetsOfAddress (entry .address)
+  pub address : r .address ≡ addressWords (entry .address)
   pub candidate : List·Memᴰ entry (candidatesOf l ready)
   pub top : (inUse l .algorithm ≡ 0 → ⊥) → (x : Entry) → List·Memᴰ x (candidatesOf l ready) → better (inUse l .algorithm) (digestOf tag i) x entry ≡ false
   pub only : (inUse l .algorithm ≡ 0 → ⊥) → (x : Entry) → List·Memᴰ x (candidatesOf l ready)

@@ -11,11 +11,11 @@ ghost use Rattle.ready.specs.Ready.{readyIn};
 ghost use Rattle.election.specs.Election.{refusedAnswer, electOf, NoneNamed, Forwarder};
 ghost use Rattle.election.specs.Steps.{digestUnder, answerFor};
 
-// The whole answer: 0 and the elected address, its family (4 or 6) and sixteen octets, an IPv4 address in the first four; the algorithm in use, the number N of candidates and their set; or a refusal number and zeros.
+// The whole answer: 0 and the elected address, its family (4 or 6) and sixteen octets in four words, an IPv4 address in the first, then zeros; the algorithm in use, the number N of candidates and their set; or a refusal number and zeros.
 pub struct Answer {
     pub number: u8,
     pub family: u8,
-    pub address: [u8; 16],
+    pub address: [u32; 4],
     pub algorithm: u8,
     pub n: u32,
     pub candidates: u64,
@@ -45,7 +45,7 @@ fn refusal(number: u8) -> Answer
     Answer {
         number: number,
         family: 0,
-        address: [0; 16],
+        address: [0; 4],
         algorithm: 0,
         n: 0,
         candidates: 0,
@@ -68,7 +68,7 @@ fn elect_accepted(t: &[u32], tag: u32, ready: &[u32]) -> Answer
     let at = winner::elected_place(t, set, algorithm, tag, digest);
     let n = places::count(set);
     let family = layout::family_at(t, at);
-    let address = layout::octets_at(t, at);
+    let address = layout::words_at(t, at);
     Answer {
         number: 0,
         family: family,

@@ -97,8 +97,8 @@ pub fn elected(t: Table, tag: u32) -> u64
     let none = [0u32; 1];
     let words = t.words;
     let answer = segment::elect(&words, tag, &none[..0]);
-    let octets = answer.address;
-    octets[3] as u64
+    let address = answer.address;
+    (address[0] % 256) as u64
 }
 
 // The number that an election answers.

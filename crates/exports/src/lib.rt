@@ -24,7 +24,7 @@ pub struct Verdict {
 pub struct Answer {
     pub number: u8,
     pub family: u8,
-    pub address: [u8; 16],
+    pub address: [u32; 4],
     pub algorithm: u8,
     pub n: u32,
     pub candidates: u64,
@@ -110,11 +110,11 @@ pub extern "C" fn segment_elect(t: &[u32], tag: u32, ready: &[u32]) -> Answer
     ensures { λ r. ⌜ r ≡ exportedAnswer (electOf (tableIn (now (t .entry)) .esi) (tableIn (now (t .entry)) .entries) tag (readyIn (now (ready .entry)))) ⌝ }
 {
     let a = segment::elect(t, tag, ready);
-    let octets = a.address;
+    let words = a.address;
     Answer {
         number: a.number,
         family: a.family,
-        address: octets,
+        address: words,
         algorithm: a.algorithm,
         n: a.n,
         candidates: a.candidates,

@@ -12,7 +12,7 @@ use Rattle.octets.specs.Octets.{octetsOf}
 use Rattle.octets.proofs.Laws.{length-octets}
 use Rattle.rows.specs.Rows.{rowKey}
 use Rattle.rows.proofs.Compared.{Words, words-part}
-use Rattle.address.specs.Address.{IsAddress, ipv4, ipv6, octetsIn, familyOf, octetsOfAddress, addressNumber}
+use Rattle.address.specs.Address.{IsAddress, ipv4, ipv6, familyOf, addressWords, addressNumber}
 use Rattle.address.proofs.Laws as address
 use Rattle.address.proofs.Laws.{words-after}
 use Rattle.layout.specs.Table.{Entry, noEntry, AddressRight}
@@ -56,7 +56,7 @@ module _ (b : List ℕ) (h : Valid b) (i : ℕ) (l : i < length (tableIn b .entr
   unfolding familyOf
   low-last o f = address-word b h i l 4 (omega arith) ∙ low-six r is-address (words-in o) (λ e. f (family-word ∙ e))
 
-  pub octets-words : octetsIn (getD b (5 * i + 1) 0 ∷ getD b (5 * i + 2) 0 ∷ getD b (5 * i + 3) 0 ∷ getD b (5 * i + 4) 0 ∷ []) ≡ octetsOfAddress r
-  unfolding octetsOfAddress
-  octets-words =
-      rw (address-word b h i l 1 (omega arith), address-word b h i l 2 (omega arith), address-word b h i l 3 (omega arith), address-word b h i l 4 (omega arith)) (ap octetsIn (words-after r is-address))
+  pub four-words : getD b (5 * i + 1) 0 ∷ getD b (5 * i + 2) 0 ∷ getD b (5 * i + 3) 0 ∷ getD b (5 * i + 4) 0 ∷ [] ≡ addressWords r
+  unfolding addressWords
+  four-words =
+      rw (address-word b h i l 1 (omega arith), address-word b h i l 2 (omega arith), address-word b h i l 3 (omega arith), address-word b h i l 4 (omega arith)) (words-after r is-address)

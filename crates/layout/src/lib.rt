@@ -12,7 +12,7 @@ ghost use lib.ListN.{length, getD, set, take};
 ghost use Rattle.octets.specs.Octets.{sameNumbers};
 ghost use Rattle.keyed.specs.Keyed.{spliced, dropAt};
 ghost use Rattle.rows.specs.Rows.{foundIn, looksFor};
-ghost use Rattle.address.specs.Address.{addressRow, familyOf, octetsOfAddress, addressKey, addressNumber};
+ghost use Rattle.address.specs.Address.{addressRow, familyOf, addressWords, addressKey, addressNumber};
 ghost use Rattle.layout.specs.Table.{entryKey, noEntry, tableOf};
 ghost use Rattle.layout.specs.Words.{kindOf, standingOf, entryIn, wordsOf, tableIn, Octets, Valid, Packed};
 
@@ -100,13 +100,13 @@ pub fn family_at(t: &[u32], at: usize) -> u8
     t[address::WIDTH * at] as u8
 }
 
-// The sixteen octets of the address at a place.
-pub fn octets_at(t: &[u32], at: usize) -> [u8; 16]
+// The sixteen octets of the address at a place, as four words.
+pub fn words_at(t: &[u32], at: usize) -> [u32; 4]
     requires { ⌜ Valid (now t) × (at < length (tableIn (now t) .entries)) ⌝ }
-    ensures { λ r. ⌜ r ≡ octetsOfAddress (getD (tableIn (now (t .entry)) .entries) at noEntry .address) ⌝ }
+    ensures { λ r. ⌜ r ≡ addressWords (getD (tableIn (now (t .entry)) .entries) at noEntry .address) ⌝ }
 {
     let start = address::WIDTH * at;
-    address::octets(t[start + 1], t[start + 2], t[start + 3], t[start + 4])
+    [t[start + 1], t[start + 2], t[start + 3], t[start + 4]]
 }
 
 // The low 32 bits of the address at a place: all that the weight of an address asks for.

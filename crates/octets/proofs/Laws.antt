@@ -84,6 +84,12 @@ unfolding octetsOf
 length-octets zero v = refl
 length-octets (suc n) v = ap suc (length-octets n v)
 
+pub octets-octets : (n v : ℕ) → Octets (octetsOf n v)
+unfolding octetsOf
+octets-octets zero v i = omega arith
+octets-octets (suc n) v zero = mod-lt (v / 256 ^ n) (omega arith)
+octets-octets (suc n) v (suc i) = octets-octets n v i
+
 pub number-octets : (n v : ℕ) → numberOf (octetsOf n v) ≡ v % 256 ^ n
 unfolding numberOf octetsOf
 number-octets zero v = sym (mod-one v)

@@ -4,7 +4,7 @@ use mathlib.Core.Bool.{true}
 use Rattle.lists.specs.Lists.{all}
 use Rattle.octets.specs.Octets.{numberOf, octetsOf, sameNumbers, allAre}
 use Rattle.rows.specs.Rows.{rowKey}
-use Rattle.address.specs.Address.{octetsIn, familyOf, octetsOfAddress, addressKey, addressNumber, isZero}
+use Rattle.address.specs.Address.{familyOf, addressWords, addressKey, addressNumber, isZero}
 use Rattle.keyed.specs.Keyed.{remove}
 use Rattle.community.specs.Community.{electionUnder, communityOctets, readCommunity}
 use Rattle.places.specs.Places.{setOf, picked}
@@ -19,5 +19,5 @@ use Rattle.returning.specs.Returning.{allUnder, reaches, besideReference, adver
 use Rattle.segment.specs.Values.{starred, allRight}
 
 pub starred-right : allRight starred ≡ true
-unfolding allRight all numberOf octetsOf sameNumbers allAre rowKey octetsIn familyOf octetsOfAddress addressKey addressNumber isZero remove electionUnder communityOctets readCommunity setOf picked best bestOf crcBit crcBits crcOctet crcOver crc32Of weightOf allCarry inUse onList eligible candidates candidateSet better elected reservedTag answerOf electOf allUnder reaches besideReference advertised returningOf
+unfolding allRight all numberOf octetsOf sameNumbers allAre rowKey familyOf addressWords addressKey addressNumber isZero remove electionUnder communityOctets readCommunity setOf picked best bestOf crcBit crcBits crcOctet crcOver crc32Of weightOf allCarry inUse onList eligible candidates candidateSet better elected reservedTag answerOf electOf allUnder reaches besideReference advertised returningOf
 starred-right = refl

@@ -4,7 +4,7 @@
 --   Value       == numbers that a definition computes, and the numbers that they should be
 --   starred     == the table, in the document's order
 --   allRight l  == whether each value of l is what it should be
-use Prim.Native.Nat.{ℕ}
+use Prim.Native.Nat.{ℕ, _+_}
 use mathlib.Core.Bool.{Bool, true, false, _&&_}
 use mathlib.Core.List.{List, [], _∷_}
 use Rattle.lists.specs.Lists.{bit}
@@ -49,12 +49,12 @@ esi = 0 ∷ 1 ∷ 2 ∷ 3 ∷ 4 ∷ 5 ∷ 6 ∷ 7 ∷ 8 ∷ 9 ∷ []
 abbrev pub elects : List Entry → ℕ → List ℕ
 elects l tag = electOf esi l tag [] .number ∷ electOf esi l tag [] .family ∷ electOf esi l tag [] .address
 
--- the number, the family and the sixteen octets that tell 10.0.0.x, and those of the refusal n
+-- the number, the family and the four words that tell 10.0.0.x, and those of the refusal n
 abbrev pub names : ℕ → List ℕ
-names x = 0 ∷ 4 ∷ 10 ∷ 0 ∷ 0 ∷ x ∷ replicate 12 0
+names x = 0 ∷ 4 ∷ (0x0A00_0000 + x) ∷ replicate 3 0
 
 abbrev pub refuses : ℕ → List ℕ
-refuses n = n ∷ replicate 17 0
+refuses n = n ∷ replicate 5 0
 
 abbrev pub threeRoutes : List Entry
 threeRoutes = route one 0 false 0 ∷ route two 0 false 0 ∷ route three 0 false 0 ∷ []

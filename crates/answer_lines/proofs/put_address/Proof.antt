@@ -8,19 +8,32 @@ use Rattle.answer_lines.proofs.put_address.Tie as tie
 
 returns : tie.Need-returns
 returns c =
-    let six = c .before .before .before .before in
-    put-as (c .before .before .put-hex .ensures) (text-six _ _ (six .if1 .taken))
+    let called = c .before .before in
+    let spelled = called .before .before in
+    let six = spelled .before in
+    put-as (called .put-hex .ensures) (text-six _ _ _ (six .if1 .taken) (omega (arith, six .before .before .good)) (spelled .octets .ensures))
 
 returns-2 : tie.Need-returns-2
 returns-2 c =
-    let four = c .before .before .before .before in
-    put-as (c .before .before .put-dotted .ensures) (text-four _ _ (four .if1 .left) (omega (arith, four .before .before .good)))
+    let called = c .before .before in
+    let spelled = called .before .before in
+    let four = spelled .before in
+    put-as (called .put-dotted .ensures) (text-four _ _ _ (four .if1 .left) (spelled .of-u32 .ensures))
 
 pub put-address-spec : {M : Type 1} → statement M
-put-address-spec = tie.close (tie.spec
+put-address-spec =
+    tie.close
+    (tie.spec
+    (λ c. search needs)
+    (λ c. search needs)
+    (λ c. search needs)
+    (λ c. search needs)
+    (λ c κs. search needs)
     (λ c κs. search needs)
     (λ c. search needs)
     returns
+    (λ c. search needs)
+    (λ c κs. search needs)
     (λ c. search needs)
     (λ c. search needs)
     (λ c. search needs)

@@ -1,19 +1,12 @@
 -- `put_elected` meets its contract: the five pieces of the line are put one after another, and there is room for them. Assumes nothing.
 use native.Mathlib.Omega.{arith}
 use mathlib.Core.Path.{refl}
-use mir.Syntax.{w8}
-use mir.Val.{Fits}
-use lib.ListN.{getD}
-use Rattle.octets.proofs.Laws.{Octets}
 use Rattle.lines.proofs.Laws.{put-next}
 use Rattle.answer_lines.specs.AnswerLines.{electedLine}
 use Rattle.answer_lines.proofs.Laws.{written-all, length-elected}
 use borrow.Author.Needs.{needs}
 use Rattle.answer_lines.proofs.put_elected.Statement.{statement}
 use Rattle.answer_lines.proofs.put_elected.Tie as tie
-
-octets : (s : tie.Start) → Octets (s .args .address)
-octets s i = let f : Fits w8 (getD (s .args .address) i 0) = search needs in f .fits
 
 returns : tie.Need-returns
 unfolding electedLine
@@ -26,7 +19,7 @@ returns c =
     let s = p1 .before .before .before .before in
     written-all (put-next (p1 .put-run .ensures) (put-next (p2 .put-address .ensures) (put-next (p3 .put-octet .ensures) (put-next (p4 .put-decimal .ensures) (λ _. p5 .put-octet2 .ensures)))))
     refl
-    (omega (arith, length-elected (s .args .family) (s .args .address) (s .args .n) (omega (arith, s .good)) (octets s) (omega arith), s .pre))
+    (omega (arith, length-elected (s .args .family) (s .args .address) (s .args .n) (omega (arith, s .good)) (omega arith), s .pre))
 
 pub put-elected-spec : {M : Type 1} → statement M
 put-elected-spec =

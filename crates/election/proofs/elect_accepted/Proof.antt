@@ -40,7 +40,7 @@ returns-2 c =
     let digested = placed .before in
     let tested = digested .before in
     let j = tested .before in
-    rw (known .family-at .ensures, told .octets-at .ensures)
+    rw (known .family-at .ensures, told .words-at .ensures)
     (answers (table j) (from j .pre .sound) (from j .args .tag) (readyIn (now (from j .args .ready))) _ _ _ _ _ (j .before .in-use .ensures) (is-set j) (tested .if1 .left) (digested .digest-under .ensures) (placed .elected-place .ensures .1) (counted .count .ensures .0) (counted .count .ensures .1))
 
 pub elect-accepted-spec : {M : Type 1} → statement M
