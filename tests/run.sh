@@ -29,5 +29,5 @@ program=$(cd "$(dirname "$program")" && pwd)/$(basename "$program")
 
 "$here/examples/run.sh" "$release/encode" "$program"
 timeout 60 python3 "$here/hrw/check.py" "$program"
-timeout 240 "$here/differential/target/release/differential" "$reference" "$program"
+timeout 480 "$here/differential/target/release/differential" "$reference" "$program"
 echo "run.sh: all passed for $(basename "$program")"
