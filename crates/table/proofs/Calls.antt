@@ -27,7 +27,7 @@ use Rattle.community.specs.declared.ListRead.{ListRead}
 use Rattle.community.proofs.Laws.{list-refused, list-accepted, election-right}
 use Rattle.keyed.specs.Keyed.{spliced, dropAt, Rising, has, rank, insert, remove}
 use Rattle.keyed.proofs.Keyed as keyed
-use Rattle.keyed.proofs.Order.{length-insert, length-remove-le}
+use Rattle.keyed.proofs.Order.{length-insert-room, length-remove-le}
 use Rattle.rows.specs.Rows.{foundIn}
 use Rattle.rows.specs.declared.Found.the-variants.{At, Missing}
 use Rattle.rows.proofs.Places.{found-at, found-missing}
@@ -158,13 +158,6 @@ module _ (i r c : List ℕ) (p : Bool) (n : ℕ) (h : announceNumber i r c p n �
   passed-room = not-false _ (passed _ (telling-own (routeNumber r)) h .1 .1 .1 .0)
 
 -- EVERY CALL KEEPS A TABLE WELL FORMED
--- the length of an insertion that there is room for
-length-inserted : (e : Entry) (l : List Entry) → Rising entryKey 1 l → length l ≤ 64 → (has entryKey (entryKey e) l || ltb (length l) 64) ≡ true → length (insert entryKey e l) ≤ 64
-length-inserted e l r s h =
-    by-test (has entryKey (entryKey e) l)
-    (λ q. omega (arith, ap length (keyed.insert-present entryKey e l noEntry (keyed.present-of entryKey (entryKey e) l 1 noEntry r q)), length-set l (rank entryKey (entryKey e) l) e))
-    (λ q. omega (arith, length-insert entryKey e l q, ltb-true (length l) 64 (rw q at h)))
-
 chosen-kept : (n p : ℕ) (old new : Table) → WellFormed old → (n ≡ 0 → WellFormed new) → WellFormed (changed n p old new .table)
 chosen-kept n p old new w f = cond-by WellFormed (eqb n 0) (λ e. f (eqb-true n 0 e)) (λ _. w)
 
@@ -190,7 +183,7 @@ module _ (t : Table) (w : WellFormed t) where
           let right = election-right c in
           record {
             owner = inl (ap reserved own ∙ route-esi r route);
-            short = length-inserted e l (w .rising) (w .short) (passed-room (t .esi) r c p (length l) h);
+            short = length-insert-room entryKey e noEntry l 1 64 (w .rising) (w .short) (passed-room (t .esi) r c p (length l) h);
             rising = keyed.rising-insert entryKey e l 1 (key-above (routeAddress r) (route-is-address r)) (w .rising);
             right = keyed.every-insert entryKey EntryRight e l (right .0, ap (entryOf (routeAddress r)) (right .1)) (w .right);
             addresses = keyed.every-insert entryKey AddressRight e l (route-is-address r, route-address r route) (w .addresses);
