@@ -6,7 +6,7 @@ use native.Mathlib.Omega.{arith}
 use mathlib.Core.Path.{_≡_, refl, ap, sym, _∙_}
 use mathlib.Core.Bool.{Bool, true, false, cond}
 use mathlib.Core.List.{List, [], _∷_, _++_, map}
-use lib.ListN.{length, getD, set, replicate, length-map, List·getD-map, List·getD-eq-default}
+use lib.ListN.{length, getD, set, replicate, length-append, length-map, List·getD-map, List·getD-eq-default}
 use lib.Pow.{pow-pos, shr-shr}
 use lib.Bits.{bitOr, or-step, or-zero-r}
 use borrow.Author.Tests.{lt-ltb, le-ltb, eq-eqb, ne-eqb}
@@ -108,6 +108,25 @@ module _ (s i : ℕ) where
 
 pub withPlace-set : (bs : List Bool) (i : ℕ) → i < length bs → length bs ≤ 64 → withPlace (setOf bs) i ≡ setOf (set bs i true)
 withPlace-set bs i h k = withPlace-in (setOf bs) i (omega arith) ∙ setOf-set bs i h
+
+-- one flag more at the end
+pub setOf-last-false : (bs : List Bool) → setOf (bs ++ false ∷ []) ≡ setOf bs
+unfolding setOf
+setOf-last-false [] = refl
+setOf-last-false (b ∷ bs) = rw (setOf-last-false bs)
+
+pub setOf-last-true : (bs : List Bool) (n : ℕ) → length bs ≡ n → n < 64 → withPlace (setOf bs) n ≡ setOf (bs ++ true ∷ [])
+setOf-last-true bs n e h =
+    let l = length-append bs (false ∷ []) in
+    ap (λ (s : ℕ). withPlace s n) (sym (setOf-last-false bs))
+    ∙ withPlace-set (bs ++ false ∷ []) n (omega arith) (omega arith)
+    ∙ ap setOf (last-set bs n e)
+  where
+    last-set : (cs : List Bool) (m : ℕ) → length cs ≡ m → set (cs ++ false ∷ []) m true ≡ cs ++ true ∷ []
+    last-set [] zero q = refl
+    last-set [] (suc m) q = absurd (omega arith)
+    last-set (c ∷ cs) zero q = absurd (omega arith)
+    last-set (c ∷ cs) (suc m) q = ap (c ∷_) (last-set cs m (omega arith))
 
 -- a flag that is cleared
 setOf-clear : (bs : List Bool) (i : ℕ) → getD bs i false ≡ true → setOf (set bs i false) + 2 ^ i ≡ setOf bs
