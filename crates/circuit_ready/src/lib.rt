@@ -14,7 +14,8 @@ ghost use Rattle.layout.specs.Table.{noEntry};
 ghost use Rattle.layout.specs.Words.{tableIn, Valid};
 ghost use Rattle.circuit_layout.specs.Circuits.{circuitsIn, ValidCircuits};
 ghost use Rattle.places.specs.Places.{setOf};
-ghost use Rattle.circuit_ready.specs.Routers.{readyFor};
+ghost use Rattle.ready.specs.Ready.{candidateSet};
+ghost use Rattle.circuit_ready.specs.Routers.{readyFor, readyRouters};
 
 // Whether a route stands, and where the next look starts: after it, or at the place where it would stand.
 struct Seen {
@@ -53,7 +54,7 @@ fn look_for(circuits: &[u32], first: usize, row: &[u32]) -> Seen
 
 // The set of the places whose router is ready for a tag. Routers are asked for in rising address order, as the routes of each kind stand: the first look for each
 // of a router's two routes is at the place after the one where the last router's stood, or would stand.
-pub fn circuit_set(t: &[u32], circuits: &[u32], tag: u32) -> u64
+fn circuit_set(t: &[u32], circuits: &[u32], tag: u32) -> u64
     requires { ⌜ Valid (now t) × ValidCircuits (now circuits) ⌝ }
     ensures { λ r. ⌜ r ≡ setOf (map (λ e. readyFor (circuitsIn (now (circuits .entry))) tag (e .address)) (tableIn (now (t .entry)) .entries)) ⌝ }
 {
@@ -75,4 +76,15 @@ pub fn circuit_set(t: &[u32], circuits: &[u32], tag: u32) -> u64
         at += 1;
     }
     set
+}
+
+// The candidate set: all places in use or, with AC-DF in use, those of the ready routers. It is the one that the list of the ready routers of the route table makes.
+pub fn circuit_candidates(t: &[u32], ac_df: bool, circuits: &[u32], tag: u32) -> u64
+    requires { ⌜ Valid (now t) × ValidCircuits (now circuits) ⌝ }
+    ensures { λ r. ⌜ r ≡ candidateSet «ac_df» (readyRouters (circuitsIn (now (circuits .entry))) tag (tableIn (now (t .entry)) .entries)) (tableIn (now (t .entry)) .entries) ⌝ }
+{
+    if ac_df {
+        return circuit_set(t, circuits, tag);
+    }
+    places::below(layout::count(t))
 }
