@@ -11,6 +11,8 @@ use lib.Count.{ones}
 use lib.Pow.{pow-mono}
 use borrow.Author.Tests.{lt-ltb, le-ltb, eq-eqb, ne-eqb, ltb-true, eqb-true, eqb-false}
 use Rattle.lists.proofs.Lists.{empty, at-mem}
+use Rattle.lists.proofs.Numbers.{whether}
+use Rattle.address.specs.Address.{familyOf, addressWords}
 use Rattle.keyed.specs.Keyed.{Rising}
 use Rattle.layout.specs.Table.{Entry, entryKey, noEntry, Table, WellFormed}
 use Rattle.places.specs.Places.{places, setOf}
@@ -19,6 +21,7 @@ use Rattle.places.proofs.Flags.{setOf-lt, picked-places}
 use Rattle.choice.specs.Choice.{bestOf}
 use Rattle.choice.proofs.Laws.{Unique, best-in, best-top, best-only, bestOf-cons}
 use Rattle.choice.proofs.Criteria.{unique-rising}
+use Rattle.tags.specs.Tags.{reservedTag}
 use Rattle.hrw.specs.Weight.{digestOf}
 use Rattle.agreement.specs.Agreement.{inUse}
 use Rattle.agreement.specs.declared.InUse.{InUse}
@@ -26,8 +29,8 @@ use Rattle.ready.specs.Ready.{eligible, candidates, candidateSet}
 use Rattle.winner.specs.Winner.{better, elected, entriesAt}
 use Rattle.winner.proofs.Orders.{order-better, better-any}
 use Rattle.winner.proofs.Laws.{places-rising}
-use Rattle.election.specs.Election.{refusedAnswer, reservedTag, candidatesOf, namedAnswer, answerOf, electOf, NoneNamed, Forwarder}
-use Rattle.election.specs.Steps.{digestUnder, answerFor}
+use Rattle.election.specs.Election.{refusedAnswer, candidatesOf, namedAnswer, answerOf, electOf, NoneNamed, Forwarder}
+use Rattle.election.specs.Steps.{digestUnder, answerAmong}
 use Rattle.election.specs.declared.Answer.{Answer}
 
 ones-none : 0 ≡ ones 0
@@ -44,6 +47,24 @@ elected-under a tag i cs = go (eqb a 1) refl
     go true e = refl
     go false e = ap (λ (B : Entry → Entry → Bool). cond (eqb a 0) (getD cs (tag % length cs) noEntry) (bestOf B noEntry cs)) (better-any a 0 (digestOf tag i) e)
 
+-- THE ANSWER for a set of places
+module _ (i : List ℕ) (l : List Entry) (a s tag : ℕ) where
+  abbrev Among : Answer → Type 0
+  Among r = (r ≡ answerAmong i l a s tag) × (r .n ≡ ones (r .candidates))
+
+  pub among-12 : s ≡ 0 → Among (refusedAnswer 12)
+  unfolding answerAmong
+  among-12 z = (rw (eq-eqb s 0 z), ones-none)
+
+  pub among-named : (d at f n : ℕ) (x : List ℕ) → (s ≡ 0 → ⊥) → d ≡ digestUnder a tag i → getD l at noEntry ≡ elected a tag d (entriesAt l (places s))
+      → f ≡ familyOf (getD l at noEntry .address) → x ≡ addressWords (getD l at noEntry .address) → n ≡ length (places s) → n ≡ ones s
+      → Among (record { number = 0; family = f; address = x; algorithm = a; n = n; candidates = s })
+  unfolding answerAmong
+  among-named d at f n x z e g p q m o =
+      let who : getD l at noEntry ≡ elected a tag (digestOf tag i) (entriesAt l (places s)) =
+      g ∙ ap (λ (y : ℕ). elected a tag y (entriesAt l (places s))) e ∙ elected-under a tag i (entriesAt l (places s)) in
+      (rw (ne-eqb s 0 z, p, q, m, who), o)
+
 -- NONE is named exactly if no candidate is eligible
 none-named : (i : List ℕ) (l : List Entry) (tag : ℕ) (ready : List (List ℕ)) → NoneNamed l tag ready (electOf i l tag ready)
 unfolding electOf answerOf
@@ -59,6 +80,16 @@ none-named i l tag ready = go (reservedTag tag) refl (ltb 64 (length ready)) ref
     go false p true q c e r z = (λ h. absurd (omega (arith, h)), λ f k n. absurd (omega (arith, ltb-true 64 (length ready) q, k)))
     go false p false q true e r z = (λ h. empty cs (eqb-true (length cs) 0 e), λ f k n. refl)
     go false p false q false e r z = (λ h. absurd (omega (arith, h, z)), λ f k n. absurd (eqb-false (length cs) 0 e (ap length n)))
+
+-- 11 is answered for a list over 64 only
+pub never-long : (i : List ℕ) (l : List Entry) (tag : ℕ) (ready : List (List ℕ)) → length ready ≤ 64 → electOf i l tag ready .number ≡ 11 → ⊥
+unfolding electOf answerOf
+never-long i l tag ready k = rw (le-ltb 64 (length ready) k) (go (reservedTag tag) (eqb (length (candidatesOf l ready)) 0) _ refl)
+  where
+    go : (a c : Bool) (r : Answer) → r .number ≡ 0 → cond a (refusedAnswer 10) (cond c (refusedAnswer 12) r) .number ≡ 11 → ⊥
+    go true c r z h = omega (arith, h)
+    go false true r z h = omega (arith, h)
+    go false false r z h = omega (arith, h, z)
 
 -- an accepted answer names the elected candidate
 accepted-names : (i : List ℕ) (l : List Entry) (tag : ℕ) (ready : List (List ℕ)) → electOf i l tag ready .number ≡ 0
@@ -103,7 +134,7 @@ module _ (t : Table) (w : WellFormed t) (tag : ℕ) (ready : List (List ℕ)) wh
   unfolding candidates candidateSet
   by-places = sym (picked-places bs es noEntry (sym length-bs) (omega (arith, length-bs, w .short)))
 
-  pub set-under : set < 2 ^ length es
+  set-under : set < 2 ^ length es
   unfolding candidateSet
   set-under = subst (λ (n : ℕ). setOf bs < 2 ^ n) length-bs (setOf-lt bs)
 
@@ -113,35 +144,29 @@ module _ (t : Table) (w : WellFormed t) (tag : ℕ) (ready : List (List ℕ)) wh
   length-cs : length cs ≡ length (places set)
   length-cs = ap length by-places ∙ length-map (places set) (λ (i : ℕ). getD es i noEntry)
 
-  abbrev pub Answers : Answer → Type 0
-  Answers r = (r ≡ answerFor (t .esi) es tag ready) × (r .n ≡ ones (r .candidates))
-
-  pub answers-12 : (s : ℕ) → s ≡ set → s ≡ 0 → Answers (refusedAnswer 12)
-  unfolding answerOf answerFor
-  answers-12 s e z =
-      let none-there : length cs ≡ 0 = length-cs ∙ ap (λ (x : ℕ). length (places x)) (sym e ∙ z) ∙ ap length places-none in
-      (rw (eq-eqb (length cs) 0 none-there), ones-none)
-
-  pub answers : (v : InUse) (s d at n : ℕ) → v ≡ u → s ≡ set → (s ≡ 0 → ⊥) → d ≡ digestUnder (v .algorithm) tag (t .esi)
-      → getD es at noEntry ≡ elected (v .algorithm) tag d (entriesAt es (places s)) → n ≡ length (places s) → n ≡ ones s
-      → Answers (namedAnswer (getD es at noEntry .address) (v .algorithm) n s)
-  unfolding answerOf answerFor
-  answers v s d at n a e z f g m o =
-      let some : length cs ≡ 0 → ⊥ = λ q. z (e ∙ places-empty set fits (empty (places set) (sym length-cs ∙ q))) in
-      let who : getD es at noEntry ≡ elected (u .algorithm) tag (digestOf tag (t .esi)) cs =
-      g ∙ ap (λ (x : ℕ). elected (v .algorithm) tag x (entriesAt es (places s))) f
-      ∙ elected-under (v .algorithm) tag (t .esi) (entriesAt es (places s))
-      ∙ ap₂ (λ (x : InUse) (l : List Entry). elected (x .algorithm) tag (digestOf tag (t .esi)) l) a (ap (λ (y : ℕ). entriesAt es (places y)) e ∙ sym by-places) in
-      let count : n ≡ length cs = m ∙ ap (λ (y : ℕ). length (places y)) e ∙ sym length-cs in
-      (rw (who, a, count, e, ne-eqb (length cs) 0 some), o)
+  -- the answer for the candidate set is the one for the candidates
+  among : answerAmong (t .esi) es (u .algorithm) set tag ≡ answerOf (t .esi) u cs set tag
+  unfolding answerAmong answerOf
+  among =
+      whether set 0
+      (λ z. rw (eq-eqb set 0 z, eq-eqb (length cs) 0 (length-cs ∙ ap (λ (x : ℕ). length (places x)) z ∙ ap length places-none)))
+      (λ n.
+      let some : length cs ≡ 0 → ⊥ = λ q. n (places-empty set fits (empty (places set) (sym length-cs ∙ q))) in
+      rw (ne-eqb set 0 n, ne-eqb (length cs) 0 some, ← length-cs, ← by-places))
 
   -- once 10 and 11 are passed, and where they refuse
   abbrev pub Elects : Answer → Type 0
   Elects r = (r ≡ electOf (t .esi) es tag ready) × (r .n ≡ ones (r .candidates))
 
-  pub asked : {r : Answer} → reservedTag tag ≡ false → length ready ≤ 64 → Answers r → Elects r
-  unfolding electOf answerFor
-  asked h k (p, q) = (p ∙ rw (h, le-ltb 64 (length ready) k), q)
+  pub asked : {r : Answer} (v : InUse) (s : ℕ) → v ≡ u → s ≡ candidateSet (v .«ac_df») ready es → reservedTag tag ≡ false → length ready ≤ 64
+      → (r ≡ answerAmong (t .esi) es (v .algorithm) s tag) × (r .n ≡ ones (r .candidates)) → Elects r
+  unfolding electOf
+  asked v s e f h k (p, q) =
+      let g : s ≡ set = f ∙ ap (λ (x : InUse). candidateSet (x .«ac_df») ready es) e in
+      (p ∙ ap₂ (λ (x : InUse) (y : ℕ). answerAmong (t .esi) es (x .algorithm) y tag) e g ∙ among ∙ rw (h, le-ltb 64 (length ready) k), q)
+
+  pub set-in-use : (v : InUse) (s : ℕ) → v ≡ u → s ≡ candidateSet (v .«ac_df») ready es → s < 2 ^ length es
+  set-in-use v s e f = rw (f, e) set-under
 
   pub elects-10 : reservedTag tag ≡ true → Elects (refusedAnswer 10)
   unfolding electOf
@@ -208,16 +233,3 @@ module _ (t : Table) (w : WellFormed t) (tag : ℕ) (ready : List (List ℕ)) wh
       ),
     ),
   )
-
--- RESERVED TAGS, as the code tests them
-pub tag-zero : (tag : ℕ) → tag ≡ 0 → reservedTag tag ≡ true
-unfolding reservedTag
-tag-zero tag e = rw (eq-eqb tag 0 e)
-
-pub tag-last : (tag : ℕ) → (tag ≡ 0 → ⊥) → tag ≡ 4294967295 → reservedTag tag ≡ true
-unfolding reservedTag
-tag-last tag n e = rw (ne-eqb tag 0 n, eq-eqb tag 4294967295 e)
-
-pub tag-right : (tag : ℕ) → (tag ≡ 0 → ⊥) → (tag ≡ 4294967295 → ⊥) → reservedTag tag ≡ false
-unfolding reservedTag
-tag-right tag m n = rw (ne-eqb tag 0 m, ne-eqb tag 4294967295 n)

@@ -1,25 +1,27 @@
 -- The election for one Ethernet Tag (document 01, "The election"): for an identifier, the entries of its table in rising address order, a tag and a
 -- ready list. The algorithm in use is defined in `agreement`, the candidates in `ready`, the elected one of them in `winner`.
 --   refusedAnswer n         == the answer with the refusal n: every other number is zero
---   reservedTag tag         == whether the tag is 0 or 4,294,967,295
 --   candidatesOf l ready    == the candidates among the entries l, with the AC-DF bit in use
 --   namedAnswer x a n set   == the answer that names the address x
 --   answerOf i u cs set tag == the answer once 10 and 11 are passed, with u in use and the candidates cs, whose set is `set`
 --   electOf i l tag ready   == the whole answer
+--   electOver i l c tag     == the whole answer of the election over both tables, where c are the A-D routes that stand (document 02, M-102)
 --   NoneNamed l tag ready r == r is the refusal 12, which names nobody, exactly if no route is eligible
 --   Forwarder i l tag ready r == who it is that r names
 use Prim.Native.Nat.{ℕ, _%_, _≤_}
 use mathlib.Core.Path.{_≡_}
-use mathlib.Core.Bool.{Bool, false, cond, _||_}
+use mathlib.Core.Bool.{false, cond}
 use mathlib.Core.List.{List, [], List·Memᴰ}
 use lib.ListN.{length, getD, replicate}
 use lib.Dec.{ltb, eqb}
 use Rattle.address.specs.Address.{familyOf, addressWords}
 use Rattle.layout.specs.Table.{Entry, noEntry}
+use Rattle.tags.specs.Tags.{reservedTag}
 use Rattle.hrw.specs.Weight.{digestOf}
 use Rattle.agreement.specs.Agreement.{inUse}
 use Rattle.agreement.specs.declared.InUse.{InUse}
 use Rattle.ready.specs.Ready.{candidates, candidateSet}
+use Rattle.circuit_ready.specs.Routers.{readyRouters}
 use Rattle.winner.specs.Winner.{better, elected}
 use Rattle.refusals.specs.Refusals.{tagReserved, readyTooLong, noneEligible}
 use Rattle.election.specs.declared.Answer.{Answer}
@@ -27,9 +29,6 @@ use Rattle.election.specs.declared.Answer.{Answer}
 -- 10 for a reserved tag, 11 for a list over 64, 12 where no route is eligible
 abbrev pub refusedAnswer : ℕ → Answer
 refusedAnswer n = record { number = n; family = 0; address = replicate 4 0; algorithm = 0; n = 0; candidates = 0 }
-
-unfoldable pub reservedTag : ℕ → Bool
-reservedTag tag = eqb tag 0 || eqb tag 4294967295
 
 abbrev pub candidatesOf : List Entry → List (List ℕ) → List Entry
 candidatesOf l ready = candidates (inUse l .«ac_df») ready l
@@ -47,6 +46,10 @@ electOf i l tag ready =
     cond (reservedTag tag) (refusedAnswer tagReserved)
     (cond (ltb 64 (length ready)) (refusedAnswer readyTooLong)
     (answerOf i (inUse l) (candidatesOf l ready) (candidateSet (inUse l .«ac_df») ready l) tag))
+
+-- the same election, with the list of the ready routers that stand in the route table
+unfoldable pub electOver : List ℕ → List Entry → List (List ℕ) → ℕ → Answer
+electOver i l c tag = electOf i l tag (readyRouters c tag l)
 
 -- none is named, and 12 answered with zeros, exactly if no route is eligible; 10 and 11 come first
 abbrev pub NoneNamed : List Entry → ℕ → List (List ℕ) → Answer → Type 0

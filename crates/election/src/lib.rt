@@ -1,15 +1,20 @@
 // The Designated Forwarder election for one Ethernet Tag: the algorithm in use (`agreement`), the candidates (`ready`), the elected one of them (`winner`), and
-// the whole answer.
+// the whole answer. The candidates come from a ready list, or from the A-D routes of a second table (`circuit_ready`).
 use address::WIDTH;
 use refusals::NONE_ELIGIBLE;
 use refusals::READY_TOO_LONG;
 use refusals::TAG_RESERVED;
 ghost use mathlib.Core.Path.{_≡_};
+ghost use Prim.Native.Nat.{_<_, _^_};
 ghost use lib.Count.{ones};
+ghost use lib.ListN.{length};
 ghost use Rattle.layout.specs.Words.{tableIn, Valid};
 ghost use Rattle.ready.specs.Ready.{readyIn};
-ghost use Rattle.election.specs.Election.{refusedAnswer, electOf, NoneNamed, Forwarder};
-ghost use Rattle.election.specs.Steps.{digestUnder, answerFor};
+ghost use Rattle.circuit_layout.specs.Circuits.{circuitsIn, ValidCircuits};
+ghost use Rattle.circuit_ready.specs.Routers.{readyRouters};
+ghost use Rattle.refusals.specs.Refusals.{readyTooLong};
+ghost use Rattle.election.specs.Election.{refusedAnswer, electOf, electOver, NoneNamed, Forwarder};
+ghost use Rattle.election.specs.Steps.{digestUnder, answerAmong};
 
 // The whole answer: 0 and the elected address, its family (4 or 6) and sixteen octets in four words, an IPv4 address in the first, then zeros; the algorithm in use, the number N of candidates and their set; or a refusal number and zeros.
 pub struct Answer {
@@ -20,9 +25,6 @@ pub struct Answer {
     pub n: u32,
     pub candidates: u64,
 }
-
-// The reserved tag besides 0.
-const LAST_TAG: u32 = 4294967295;
 
 // The most rows that a ready list may have.
 const MAX_READY: usize = 64;
@@ -52,15 +54,12 @@ fn refusal(number: u8) -> Answer
     }
 }
 
-// The answer once the tag and the list are accepted: 12 where no route is eligible. N is the number of the ones of the candidate set.
-fn elect_accepted(t: &[u32], tag: u32, ready: &[u32]) -> Answer
-    requires { ⌜ Valid (now t) ⌝ }
-    ensures answer { λ r. ⌜ r ≡ answerFor (tableIn (now (t .entry)) .esi) (tableIn (now (t .entry)) .entries) tag (readyIn (now (ready .entry))) ⌝ }
+// The answer for a set of places in use, under an algorithm: 12 where the set is empty. N is the number of its ones.
+fn elect_among(t: &[u32], algorithm: u8, set: u64, tag: u32) -> Answer
+    requires { ⌜ Valid (now t) × (set < 2 ^ length (tableIn (now t) .entries)) ⌝ }
+    ensures answer { λ r. ⌜ r ≡ answerAmong (tableIn (now (t .entry)) .esi) (tableIn (now (t .entry)) .entries) algorithm set tag ⌝ }
     ensures counted { λ r. ⌜ r .n ≡ ones (r .candidates) ⌝ }
 {
-    let u = agreement::in_use(t);
-    let algorithm = u.algorithm;
-    let set = ready::candidate_set(t, u.ac_df, ready);
     if set == 0 {
         return refusal(NONE_ELIGIBLE);
     }
@@ -89,14 +88,31 @@ pub fn elect(t: &[u32], tag: u32, ready: &[u32]) -> Answer
     ensures none_named { λ r. ⌜ NoneNamed (tableIn (now (t .entry)) .entries) tag (readyIn (now (ready .entry))) r ⌝ }
     ensures forwarder { λ r. ⌜ (r .number ≡ 0 → Forwarder (tableIn (now (t .entry)) .esi) (tableIn (now (t .entry)) .entries) tag (readyIn (now (ready .entry))) r) ⌝ }
 {
-    if tag == 0 {
-        return refusal(TAG_RESERVED);
-    }
-    if tag == LAST_TAG {
+    if tags::is_reserved(tag) {
         return refusal(TAG_RESERVED);
     }
     if MAX_READY < ready.len() / WIDTH {
         return refusal(READY_TOO_LONG);
     }
-    elect_accepted(t, tag, ready)
+    let u = agreement::in_use(t);
+    let set = ready::candidate_set(t, u.ac_df, ready);
+    elect_among(t, u.algorithm, set, tag)
+}
+
+// Elects over both tables: as `elect` does with the list of those routers of the route table that are ready for the tag by their A-D routes. This list is never
+// too long, so 11 is not answered.
+pub fn elect_by_circuits(t: &[u32], circuits: &[u32], tag: u32) -> Answer
+    requires { ⌜ Valid (now t) × ValidCircuits (now circuits) ⌝ }
+    ensures answer { λ r. ⌜ r ≡ electOver (tableIn (now (t .entry)) .esi) (tableIn (now (t .entry)) .entries) (circuitsIn (now (circuits .entry))) tag ⌝ }
+    ensures counted { λ r. ⌜ r .n ≡ ones (r .candidates) ⌝ }
+    ensures none_named { λ r. ⌜ NoneNamed (tableIn (now (t .entry)) .entries) tag (readyRouters (circuitsIn (now (circuits .entry))) tag (tableIn (now (t .entry)) .entries)) r ⌝ }
+    ensures forwarder { λ r. ⌜ (r .number ≡ 0 → Forwarder (tableIn (now (t .entry)) .esi) (tableIn (now (t .entry)) .entries) tag (readyRouters (circuitsIn (now (circuits .entry))) tag (tableIn (now (t .entry)) .entries)) r) ⌝ }
+    ensures never_long { λ r. ⌜ (r .number ≡ readyTooLong → ⊥) ⌝ }
+{
+    if tags::is_reserved(tag) {
+        return refusal(TAG_RESERVED);
+    }
+    let u = agreement::in_use(t);
+    let set = circuit_ready::circuit_candidates(t, u.ac_df, circuits, tag);
+    elect_among(t, u.algorithm, set, tag)
 }
