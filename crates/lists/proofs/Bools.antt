@@ -3,9 +3,9 @@ use Prim.Native.Nat.{ℕ, zero, suc, _+_, _*_, _/_, _%_, _≤_, _<_}
 use native.Mathlib.Omega.{arith}
 use mathlib.Core.Path.{_≡_, refl, ap}
 use mathlib.Core.Bool.{Bool, true, false, cond, not, _||_}
-use lib.Dec.{eqb}
+use lib.Dec.{ltb, eqb}
 use mir.Val.{boolByte}
-use borrow.Author.Tests.{not-true, eqb-false, eq-eqb, ne-eqb}
+use borrow.Author.Tests.{not-true, ltb-true, eqb-false, eq-eqb, ne-eqb}
 use Rattle.lists.specs.Lists.{bit}
 use Rattle.lists.proofs.Numbers.{whether}
 
@@ -37,6 +37,11 @@ or-swap true false c = refl
 or-swap false true c = refl
 or-swap false false c = refl
 
+-- room for a new one: what is not there, and may be taken, is taken below the capacity
+pub room-left : (b : Bool) (n c : ℕ) → b ≡ false → (b || ltb n c) ≡ true → n < c
+room-left true n c f h = absurd (true-false refl f)
+room-left false n c f h = ltb-true n c h
+
 -- the two cases of a test, and what holds of both cases of a choice
 pub by-test : {P : Type 0} (b : Bool) → (b ≡ true → P) → (b ≡ false → P) → P
 by-test true f g = f refl
@@ -46,6 +51,13 @@ module _ {A : Type 0} where
   pub cond-by : (P : A → Type 0) (b : Bool) {x y : A} → (b ≡ true → P x) → (b ≡ false → P y) → P (cond b x y)
   cond-by P true f g = f refl
   cond-by P false f g = g refl
+
+  -- a choice between the same two
+  pub no-choice : (b c : Bool) (x : A) → cond b x x ≡ cond c x x
+  no-choice true true x = refl
+  no-choice true false x = refl
+  no-choice false true x = refl
+  no-choice false false x = refl
 
 -- A TEST THAT TWO NUMBERS DIFFER
 pub eq-not : {a b : ℕ} → a ≡ b → not (eqb a b) ≡ false

@@ -3,12 +3,13 @@
 use Prim.Native.Nat.{ℕ, _<_}
 use native.Mathlib.Omega.{arith}
 use mathlib.Core.Path.{_≡_, refl, ap, ap₂, sym, subst}
-use mathlib.Core.Bool.{Bool, true, false, cond, _||_}
+use mathlib.Core.Bool.{Bool, true, false, cond, or-true}
 use mathlib.Core.List.{List, map}
 use lib.ListN.{length-map}
-use lib.Dec.{ltb, eqb}
-use borrow.Author.Tests.{ltb-true, lt-ltb, ne-eqb}
+use lib.Dec.{eqb}
+use borrow.Author.Tests.{lt-ltb, ne-eqb}
 use Rattle.lists.specs.Checks.{firstRefusal}
+use Rattle.lists.proofs.Bools.{room-left}
 use Rattle.address.specs.Address.{addressKey}
 use Rattle.route.specs.Route.{routeAddress}
 use Rattle.keyed.specs.Keyed.{has, insert, remove}
@@ -70,14 +71,6 @@ module _ (i : List ℕ) where
     call-state (returning a alg p d) = refl
 
 -- THE RULES: a new address is held only where there is room, and an announcement that was accepted once is accepted wherever there is room
-room-left : (b : Bool) (n : ℕ) → b ≡ false → (b || ltb n 64) ≡ true → n < 64
-room-left true n f h = let z : _≡_ {A = ℕ} 0 1 = cc in absurd (omega arith)
-room-left false n f h = ltb-true n 64 h
-
-or-true : (b : Bool) → (b || true) ≡ true
-or-true true = refl
-or-true false = refl
-
 accept-again : (i r c : List ℕ) (p q : Bool) (m n : ℕ) → announceNumber i r c p m ≡ 0 → n < 64 → announceNumber i r c q n ≡ 0
 unfolding announceNumber firstRefusal
 accept-again i r c p q m n h l =
@@ -108,7 +101,7 @@ module _ (i : List ℕ) where
   unfolding callNumber
   room p present n q f =
       let b : Bool = present (originatorKey p) in
-      room-left b n f (passed-room i (p .route) (p .communities) b n q)
+      room-left b n 64 f (passed-room i (p .route) (p .communities) b n q)
 
   repeats : (p : Announcement) (u v : ℕ → Bool) (m n : ℕ) → callNumber i (again p) u m ≡ 0 → n < 64 → callNumber i (again p) v n ≡ 0
   unfolding callNumber

@@ -1,16 +1,18 @@
 -- Demand 3 holds of every identifier and every list of calls: the general theorem on journals, at a segment's calls and a capacity of 64.
 -- Assumes nothing.
-use Prim.Native.Nat.{ℕ, zero, suc, _≤_}
+use Prim.Native.Nat.{ℕ, _≤_}
 use mathlib.Core.Path.{_≡_, refl, ap, sym, _∙_}
-use mathlib.Core.Bool.{Bool, true, false, cond}
+use mathlib.Core.Bool.{Bool, cond}
 use mathlib.Core.List.{List, [], _∷_, _++_, map, List·Permᴰ, List·Permᴰ·trans, Permᴰ·symm, Permᴰ·map}
 use mathlib.Core.Option.{Option, none}
 use lib.ListN.{length, replicate}
 use lib.Dec.{eqb}
+use Rattle.lists.proofs.Bools.{no-choice}
+use Rattle.lists.proofs.Lists.{map-replicate}
 use Rattle.keyed.specs.Keyed.{Rising, insert, arranged}
 use Rattle.keyed.specs.Journal.{after, answers, heldAt, heard, lastHeld}
 use Rattle.keyed.proofs.Keyed.{map-insert}
-use Rattle.keyed.proofs.Order.{Distinct, perm-arranged, rising-arranged-all, rising-unique}
+use Rattle.keyed.proofs.Order.{perm-arranged, rising-arranged-all, rising-unique}
 use Rattle.keyed.proofs.Journal as journal
 use Rattle.layout.specs.Table.{Entry, Table, entryKey, WellFormed, ownerOf}
 use Rattle.table.specs.Table.{freshTable, Told}
@@ -22,7 +24,7 @@ use Rattle.election.specs.Election.{electOf}
 use Rattle.returning.specs.declared.Sent.{Sent}
 use Rattle.returning.specs.Returning.{returningOf}
 use Rattle.segment.specs.Calls.{Call, announce, withdraw, elect, returning, Reply, changeReply, electReply, returningReply, numberIn, replyTo, leaves}
-use Rattle.segment.specs.Journal.{Announcement, originatorKey, again, entryFrom, entriesFrom, callNumber, callEffect, numberFor, step, journalReply, held, OnePerAddress}
+use Rattle.segment.specs.Journal.{Announcement, originatorKey, again, entryFrom, entriesFrom, callNumber, callEffect, numberFor, step, journalReply, held}
 use Rattle.segment.specs.Demand3.{tableAfter, Follows, Demand3}
 use Rattle.segment.proofs.Calls.{rules, state, announced-number, withdrawn-number, call-state, refused-leaves, call-kept}
 
@@ -36,46 +38,21 @@ entries-arranged (p ∷ js) =
 rising-entries : (js : List Announcement) → Rising entryKey 0 (entriesFrom js)
 rising-entries js = rw (entries-arranged js) (rising-arranged-all entryKey (map entryFrom js))
 
--- NUMBERS AND REPLIES
-unheard : (m n : ℕ) (o : Option Announcement) → cond (eqb m 0) o o ≡ cond (eqb n 0) o o
-unheard m n o = go (eqb m 0) (eqb n 0)
-  where
-    go : (a b : Bool) → cond a o o ≡ cond b o o
-    go true true = refl
-    go true false = refl
-    go false true = refl
-    go false false = refl
-
-map-replicate : {A B : Type 0} (f : A → B) (x : A) (n : ℕ) → map f (replicate n x) ≡ replicate n (f x)
-map-replicate f x zero = refl
-map-replicate {B = B} f x (suc n) = ap (λ (l : List B). f x ∷ l) (map-replicate f x n)
-
 -- i is the journal's identifier
 module _ (i : List ℕ) where
   -- the number of an election or of a call for a returning router changes nothing that is held
-  module _ (k : ℕ) where
-    same-heard : (o : Option Announcement) (js : List Announcement) (c : Call)
-        → cond (eqb (numberFor i js c) 0) (heard originatorKey k (callEffect c) o) o
-        ≡ cond (eqb (numberIn (journalReply i js c)) 0) (heard originatorKey k (callEffect c) o) o
-    unfolding numberIn journalReply callEffect heard
-    same-heard o js (announce r c) = refl
-    same-heard o js (withdraw a) = refl
-    same-heard o js (elect tag ready) = unheard (numberFor i js (elect tag ready)) (electOf i (entriesFrom js) tag ready .number) o
-    same-heard o js (returning a alg p d) = unheard (numberFor i js (returning a alg p d)) (returningOf (entriesFrom js) a alg p d .number) o
+  same-heard : (k : ℕ) (o : Option Announcement) (js : List Announcement) (c : Call)
+      → cond (eqb (numberFor i js c) 0) (heard originatorKey k (callEffect c) o) o
+      ≡ cond (eqb (numberIn (journalReply i js c)) 0) (heard originatorKey k (callEffect c) o) o
+  unfolding numberIn journalReply callEffect heard
+  same-heard k o js (announce r c) = refl
+  same-heard k o js (withdraw a) = refl
+  same-heard k o js (elect tag ready) = no-choice (eqb (numberFor i js (elect tag ready)) 0) (eqb (electOf i (entriesFrom js) tag ready .number) 0) o
+  same-heard k o js (returning a alg p d) = no-choice (eqb (numberFor i js (returning a alg p d)) 0) (eqb (returningOf (entriesFrom js) a alg p d .number) 0) o
 
-    same-last : (o : Option Announcement) (js : List Announcement) (cs : List Call)
-        → lastHeld originatorKey callEffect k o cs (answers (numberFor i) (step i) js cs)
-        ≡ lastHeld originatorKey callEffect k o cs (map numberIn (answers (journalReply i) (step i) js cs))
-    unfolding lastHeld answers
-    same-last o js [] = refl
-    same-last o js (c ∷ cs) = rw (same-heard o js c) (same-last _ (step i js c) cs)
-
-  -- announcements alone are answered their numbers
-  only-numbers : (js order : List Announcement)
-      → answers (journalReply i) (step i) js (map again order) ≡ map changeReply (answers (numberFor i) (step i) js (map again order))
-  unfolding answers journalReply
-  only-numbers js [] = refl
-  only-numbers js (p ∷ order) = ap (λ (l : List Reply). changeReply (numberFor i js (again p)) ∷ l) (only-numbers (step i js (again p)) order)
+  own-number : (js : List Announcement) (p : Announcement) → journalReply i js (again p) ≡ changeReply (numberFor i js (again p))
+  unfolding journalReply
+  own-number js p = refl
 
   -- A KEPT JOURNAL: the table of what it holds gives its replies, and its entries are in the only rising order
   abbrev Kept : List Announcement → Type 0
@@ -127,7 +104,7 @@ module _ (i : List ℕ) where
   unfolding heldAt
   last-held cs k =
       journal.held-last originatorKey (callNumber i) callEffect again 64 (rules i) k [] cs kept-none
-      ∙ same-last k none [] cs
+      ∙ journal.last-replies originatorKey (callNumber i) callEffect again 64 (journalReply i) numberIn k (same-heard k) none [] cs
       ∙ ap (λ (l : List Reply). lastHeld originatorKey callEffect k none cs (map numberIn l)) (sym (tells cs))
 
   -- what is held, announced alone in any order
@@ -135,16 +112,12 @@ module _ (i : List ℕ) where
     again-accepted : answers replyTo leaves (state i []) (map again order) ≡ replicate (length order) (changeReply 0)
     again-accepted =
         tells (map again order)
-        ∙ only-numbers [] order
+        ∙ journal.again-replies originatorKey (callNumber i) callEffect again 64 (journalReply i) changeReply own-number [] order
         ∙ ap (map changeReply) (journal.again-all originatorKey (callNumber i) callEffect again 64 (rules i) (after (step i) [] cs) order (kept cs) h .1)
-        ∙ map-replicate changeReply 0 (length order)
+        ∙ map-replicate changeReply (length order) 0
 
     again-state : after leaves (state i []) (map again order) ≡ after leaves (state i []) cs
     again-state = journal.same-state originatorKey (callNumber i) callEffect again 64 (rules i) (state i) leaves one cs order h
-
-one-per-address : (js : List Announcement) → Distinct originatorKey js → OnePerAddress js
-one-per-address [] d = tt
-one-per-address (p ∷ js) d = (d .0, one-per-address js (d .1))
 
 calls-kept : (t : Table) (cs : List Call) → WellFormed t → WellFormed (after leaves t cs)
 unfolding after
@@ -159,7 +132,7 @@ demand3 i cs = record {
   elections = λ tag ready. refl;
   returnings = λ a alg p d. refl;
   refusals = refused-leaves (tableAfter i cs);
-  single = one-per-address (held i cs) (kept (ownerOf i) cs .distinct);
+  single = kept (ownerOf i) cs .distinct;
   last = last-held (ownerOf i) cs;
   sound = calls-kept (freshTable i .table) cs (fresh-kept i);
   accepted = again-accepted (ownerOf i) cs;
@@ -175,20 +148,9 @@ demand3 i cs = record {
 }
 
 -- ONE CALL MORE at the end of a list
-after-last : (t : Table) (cs : List Call) (c : Call) → after leaves t (cs ++ c ∷ []) ≡ leaves (after leaves t cs) c
-unfolding after
-after-last t [] c = refl
-after-last t (d ∷ cs) c = after-last (leaves t d) cs c
-
-answers-last : (t : Table) (cs : List Call) (c : Call)
-    → answers replyTo leaves t (cs ++ c ∷ []) ≡ answers replyTo leaves t cs ++ replyTo (after leaves t cs) c ∷ []
-unfolding after answers
-answers-last t [] c = refl
-answers-last t (d ∷ cs) c = ap (λ (l : List Reply). replyTo t d ∷ l) (answers-last (leaves t d) cs c)
-
 pub follows : (t : Table) (c : Call) {r : Reply} {u : Table} → replyTo t c ≡ r → leaves t c ≡ u → Follows t c r u
 follows t c p q i cs e =
-    (answers-last (freshTable i .table) cs c ∙ rw (← e, p), after-last (freshTable i .table) cs c ∙ rw (← e) q)
+    (journal.answers-last replyTo leaves (freshTable i .table) cs c ∙ rw (← e, p), journal.after-last replyTo leaves (freshTable i .table) cs c ∙ rw (← e) q)
 
 pub starts : (i : List ℕ) (n p : ℕ) (b : List ℕ) → Told (freshTable i) n p b → tableIn b ≡ tableAfter i []
 unfolding after

@@ -14,7 +14,8 @@ use Rattle.hrw.specs.Weight.{weightOf}
 use Rattle.agreement.specs.Agreement.{allCarry, inUse}
 use Rattle.ready.specs.Ready.{onList, eligible, candidates, candidateSet}
 use Rattle.winner.specs.Winner.{better, elected}
-use Rattle.election.specs.Election.{reservedTag, answerOf, electOf}
+use Rattle.tags.specs.Tags.{reservedTag}
+use Rattle.election.specs.Election.{answerOf, electOf}
 use Rattle.returning.specs.Returning.{allUnder, reaches, besideReference, advertised, returningOf}
 use Rattle.segment.specs.Values.{starred, allRight}
 

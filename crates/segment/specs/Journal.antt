@@ -13,13 +13,12 @@
 --   held i cs              == what the calls cs leave held, where the identifier i was handed in
 --   OnePerAddress js       == no two announcements of js have the same originator's key
 use Prim.Native.Nat.{ℕ}
-use mathlib.Core.Path.{_≡_}
-use mathlib.Core.Bool.{Bool, false}
-use mathlib.Core.List.{List, [], _∷_, map}
+use mathlib.Core.Bool.{Bool}
+use mathlib.Core.List.{List, [], map}
 use Rattle.address.specs.Address.{addressKey}
 use Rattle.route.specs.Route.{routeAddress}
 use Rattle.community.specs.Community.{electionIn}
-use Rattle.keyed.specs.Keyed.{has, arranged}
+use Rattle.keyed.specs.Keyed.{Distinct, arranged}
 use Rattle.keyed.specs.Journal.{Effect, hold, release, neither, after, journalNumber, journalStep}
 use Rattle.layout.specs.Table.{Entry, entryOf, ownerOf}
 use Rattle.table.specs.Table.{announceNumber, withdrawNumber}
@@ -75,5 +74,4 @@ abbrev pub held : List ℕ → List Call → List Announcement
 held i cs = after (step (ownerOf i)) [] cs
 
 abbrev pub OnePerAddress : List Announcement → Type 0
-OnePerAddress [] = Unit
-OnePerAddress (p ∷ js) = (has originatorKey (originatorKey p) js ≡ false) × OnePerAddress js
+OnePerAddress js = Distinct originatorKey js

@@ -1,0 +1,3 @@
+pub mod Calls
+pub mod Journal
+pub mod Demand3
