@@ -2,16 +2,21 @@
 // They are not for a daemon: nothing tests that the words lent are those of a table (`Valid`), which benchmarks/src/proved.rs sees to by a type.
 use address::Address;
 use address::Family;
+use circuits::WORDS as CIRCUIT_WORDS;
+use segment::Scope;
 use table::WORDS;
 ghost use mathlib.Core.Path.{_≡_};
+ghost use mathlib.Core.List.{[]};
 ghost use Rattle.address.specs.Address.{addressRow};
 ghost use Rattle.ready.specs.Ready.{readyIn};
 ghost use Rattle.table.specs.Table.{freshTable, announced, withdrawn, Told};
 ghost use Rattle.layout.specs.Words.{tableIn, Valid};
 ghost use Rattle.hrw.specs.Weight.{digestOf};
-ghost use Rattle.election.specs.Election.{electOf};
+ghost use Rattle.circuit_layout.specs.Circuits.{circuitsIn, ValidCircuits};
+ghost use Rattle.circuits.specs.Changes.{adAnnounced, adWithdrawn, AdTold};
+ghost use Rattle.election.specs.Election.{electOf, electOver};
 ghost use Rattle.returning.specs.Returning.{returningOf};
-ghost use Rattle.exports.specs.Exports.{exportedAnswer, handedIn, sentOf};
+ghost use Rattle.exports.specs.Exports.{exportedAnswer, handedIn, scopeOf, sentOf};
 
 // The answers of the calls, laid out as C lays them out.
 #[repr(C)]
@@ -143,6 +148,86 @@ pub extern "C" fn segment_returning(
         number: s.number,
         preference: s.preference,
         dp: s.dp,
+    }
+}
+
+// What a route is announced for: one tag, or a whole segment.
+fn scope_of(per_instance: bool, tag: u32) -> Scope
+    ensures { λ r. ⌜ r ≡ scopeOf «per_instance» tag ⌝ }
+{
+    if per_instance {
+        return Scope::Instance(tag);
+    }
+    Scope::Segment
+}
+
+// `segment::fresh_circuits`, its table put into the words lent.
+#[no_mangle]
+pub extern "C" fn circuits_fresh(c: &mut [u32; CIRCUIT_WORDS])
+    ensures answer { λ _. ⌜ circuitsIn (now (c .exit)) ≡ [] ⌝ }
+    ensures kept { λ _. ⌜ ValidCircuits (now (c .exit)) ⌝ }
+{
+    let words = segment::fresh_circuits();
+    *c = words;
+}
+
+// `segment::announce_circuit`.
+#[no_mangle]
+pub extern "C" fn circuits_announce(
+    c: &mut [u32],
+    per_instance: bool,
+    tag: u32,
+    v6: bool,
+    w0: u32,
+    w1: u32,
+    w2: u32,
+    w3: u32,
+) -> u8
+    requires { ⌜ ValidCircuits (now c) ⌝ }
+    ensures answer { λ r. ⌜ AdTold (adAnnounced (circuitsIn (now (c .entry))) (scopeOf «per_instance» tag) (addressRow (handedIn v6 w0 w1 w2 w3))) r (now (c .exit)) ⌝ }
+    ensures kept { λ _. ⌜ ValidCircuits (now (c .exit)) ⌝ }
+{
+    let scope = scope_of(per_instance, tag);
+    let address = handed_in(v6, w0, w1, w2, w3);
+    segment::announce_circuit(c, scope, address)
+}
+
+// `segment::withdraw_circuit`.
+#[no_mangle]
+pub extern "C" fn circuits_withdraw(
+    c: &mut [u32],
+    per_instance: bool,
+    tag: u32,
+    v6: bool,
+    w0: u32,
+    w1: u32,
+    w2: u32,
+    w3: u32,
+) -> u8
+    requires { ⌜ ValidCircuits (now c) ⌝ }
+    ensures answer { λ r. ⌜ AdTold (adWithdrawn (circuitsIn (now (c .entry))) (scopeOf «per_instance» tag) (addressRow (handedIn v6 w0 w1 w2 w3))) r (now (c .exit)) ⌝ }
+    ensures kept { λ _. ⌜ ValidCircuits (now (c .exit)) ⌝ }
+{
+    let scope = scope_of(per_instance, tag);
+    let address = handed_in(v6, w0, w1, w2, w3);
+    segment::withdraw_circuit(c, scope, address)
+}
+
+// `segment::elect_by_circuits`.
+#[no_mangle]
+pub extern "C" fn segment_elect_by_circuits(t: &[u32], c: &[u32], tag: u32) -> Answer
+    requires { ⌜ Valid (now t) × ValidCircuits (now c) ⌝ }
+    ensures { λ r. ⌜ r ≡ exportedAnswer (electOver (tableIn (now (t .entry)) .esi) (tableIn (now (t .entry)) .entries) (circuitsIn (now (c .entry))) tag) ⌝ }
+{
+    let a = segment::elect_by_circuits(t, c, tag);
+    let words = a.address;
+    Answer {
+        number: a.number,
+        family: a.family,
+        address: words,
+        algorithm: a.algorithm,
+        n: a.n,
+        candidates: a.candidates,
     }
 }
 

@@ -1,6 +1,11 @@
-// What users link: the calls of one segment. A table is 395 words, which the fresh call makes and the others are lent.
+// What users link: the calls of one segment, and those of the table of its Ethernet A-D routes (`circuit_calls`). A route table is 395 words, which the fresh call makes and the others are lent.
 // The fresh call promises demand 3 of every list of calls; each call promises that it is one more call of the list.
 use address::Address;
+pub use circuit_calls::announce_circuit;
+pub use circuit_calls::elect_by_circuits;
+pub use circuit_calls::fresh_circuits;
+pub use circuit_calls::withdraw_circuit;
+pub use circuits::Scope;
 use election::Answer;
 use returning::Sent;
 use table::Made;
