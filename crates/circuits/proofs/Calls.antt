@@ -7,9 +7,9 @@ use mathlib.Core.List.{List, []}
 use lib.ListN.{length, getD, set}
 use lib.Seq.{set-getD}
 use lib.Dec.{ltb, eqb}
-use borrow.Author.Tests.{not-false, lt-ltb, le-ltb, eqb-true}
+use borrow.Author.Tests.{not-false, lt-ltb, le-ltb, ne-eqb, eqb-true}
 use Rattle.lists.proofs.Bools.{cond-by}
-use Rattle.lists.proofs.Checks.{refused-at, refused-none, passed}
+use Rattle.lists.proofs.Checks.{refused-at, refused-none, refused-first, passed}
 use Rattle.address.specs.Address.{IsAddress, isZero}
 use Rattle.keyed.specs.Keyed.{spliced, dropAt, has, insert, remove}
 use Rattle.keyed.proofs.Keyed as keyed
@@ -20,15 +20,23 @@ use Rattle.rows.proofs.Places.{found-at, found-missing}
 use Rattle.circuit_layout.specs.declared.Scope.{Scope}
 use Rattle.circuit_layout.specs.Circuits.{adRow, reservedScope, AdRoute, CircuitsRight}
 use Rattle.circuits.specs.Changes.{adAnnounceNumber, adWithdrawNumber, AdChange, adChanged, adAnnounced, adWithdrawn}
+use Rattle.circuits.specs.Steps.{adRefused}
 
 -- an answer by its number
 alike : {n m : ℕ} (old new : List (List ℕ)) → n ≡ m → adChanged n old new ≡ adChanged m old new
 alike old new e = rw e
 
+refuses : {n m : ℕ} (old new : List (List ℕ)) → n ≡ m → (n ≡ 0 → ⊥) → record { number = n; routes = old } ≡ adChanged m old new
+refuses {n} old new e h = rw (← e, ne-eqb n 0 h)
+
 abbrev pub answered : ℕ → List (List ℕ) → AdChange
 answered n l = record { number = n; routes = l }
 
 -- WHAT PASSED CHECKS SAY
+pub not-refused : (s : Scope) (a : List ℕ) → adRefused s a ≡ 0 → (isZero a ≡ false) × (reservedScope s ≡ false)
+unfolding adRefused
+not-refused s a h = let p = passed _ refl h in (p .0, p .1 .0)
+
 module _ (s : Scope) (a : List ℕ) (p : Bool) (n : ℕ) (h : adAnnounceNumber s a p n ≡ 0) where
   pub passed-zero : isZero a ≡ false
   unfolding adAnnounceNumber
@@ -47,23 +55,16 @@ module _ (l : List (List ℕ)) (w : CircuitsRight l) (s : Scope) (a : List ℕ) 
   abbrev row : List ℕ
   row = adRow s a
 
-  pub announced-zero : isZero a ≡ true → answered 6 l ≡ adAnnounced l s a
-  unfolding adAnnounced adAnnounceNumber
-  announced-zero z = alike l _ (refused-at 0 _ tt z)
+  -- what is refused whatever the table holds
+  pub announced-refused : (n : ℕ) → n ≡ adRefused s a → (n ≡ 0 → ⊥) → answered n l ≡ adAnnounced l s a
+  unfolding adAnnounced adAnnounceNumber adRefused
+  announced-refused n e m = refuses l _ (e ∙ refused-first _ _ (λ q. m (e ∙ q))) m
 
-  pub withdrawn-zero : isZero a ≡ true → answered 6 l ≡ adWithdrawn l s a
-  unfolding adWithdrawn adWithdrawNumber
-  withdrawn-zero z = alike l _ (refused-at 0 _ tt z)
+  pub withdrawn-refused : (n : ℕ) → n ≡ adRefused s a → (n ≡ 0 → ⊥) → answered n l ≡ adWithdrawn l s a
+  unfolding adWithdrawn adWithdrawNumber adRefused
+  withdrawn-refused n e m = refuses l _ (e ∙ refused-first _ _ (λ q. m (e ∙ q))) m
 
   module _ (z : isZero a ≡ false) where
-    pub announced-reserved : reservedScope s ≡ true → answered 10 l ≡ adAnnounced l s a
-    unfolding adAnnounced adAnnounceNumber
-    announced-reserved t = alike l _ (refused-at 1 _ (z, tt) t)
-
-    pub withdrawn-reserved : reservedScope s ≡ true → answered 10 l ≡ adWithdrawn l s a
-    unfolding adWithdrawn adWithdrawNumber
-    withdrawn-reserved t = alike l _ (refused-at 1 _ (z, tt) t)
-
     module _ (t : reservedScope s ≡ false) (i : ℕ) where
       -- the route that is found is the one announced, and nothing changes
       pub announced-at : foundIn rowKey (rowKey row) l ≡ At i → getD l i [] ≡ row → answered 0 l ≡ adAnnounced l s a

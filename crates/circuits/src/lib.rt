@@ -14,6 +14,7 @@ ghost use mathlib.Core.List.{[]};
 ghost use Rattle.address.specs.Address.{addressRow};
 ghost use Rattle.circuit_layout.specs.Circuits.{reservedScope, circuitsIn, ValidCircuits};
 ghost use Rattle.circuits.specs.Changes.{adAnnounced, adWithdrawn, AdTold};
+ghost use Rattle.circuits.specs.Steps.{adRefused};
 
 // A fresh table, which holds no route.
 pub fn fresh() -> [u32; WORDS]
@@ -33,17 +34,30 @@ fn is_reserved(scope: Scope) -> bool
     }
 }
 
+// 0, or the number that refuses a route whatever the table holds: 6 for address zero, 10 for a reserved tag.
+fn refused(scope: Scope, address: Address) -> u8
+    ensures { λ r. ⌜ r ≡ adRefused scope (addressRow address) ⌝ }
+{
+    let zero = address::is_zero(address);
+    let reserved = is_reserved(scope);
+    if zero {
+        return ADDRESS_ZERO;
+    }
+    if reserved {
+        return TAG_RESERVED;
+    }
+    0
+}
+
 // Announces a route: 6 for address zero, 10 for a reserved tag, 8 for a new route where 256 are present. One that is present is accepted again.
 pub fn announce(t: &mut [u32], scope: Scope, address: Address) -> u8
     requires { ⌜ ValidCircuits (now t) ⌝ }
     ensures answer { λ r. ⌜ AdTold (adAnnounced (circuitsIn (now (t .entry))) scope (addressRow address)) r (now (t .exit)) ⌝ }
     ensures kept { λ _. ⌜ ValidCircuits (now (t .exit)) ⌝ }
 {
-    if address::is_zero(address) {
-        return ADDRESS_ZERO;
-    }
-    if is_reserved(scope) {
-        return TAG_RESERVED;
+    let number = refused(scope, address);
+    if number != 0 {
+        return number;
     }
     let row = circuit_layout::row(scope, address);
     let found = circuit_layout::look(t, CAPACITY, &row);
@@ -64,14 +78,12 @@ pub fn withdraw(t: &mut [u32], scope: Scope, address: Address) -> u8
     ensures answer { λ r. ⌜ AdTold (adWithdrawn (circuitsIn (now (t .entry))) scope (addressRow address)) r (now (t .exit)) ⌝ }
     ensures kept { λ _. ⌜ ValidCircuits (now (t .exit)) ⌝ }
 {
-    if address::is_zero(address) {
-        return ADDRESS_ZERO;
+    let number = refused(scope, address);
+    if number != 0 {
+        return number;
     }
-    if is_reserved(scope) {
-        return TAG_RESERVED;
-    }
-    let row = circuit_layout::row(scope, address);
-    let found = circuit_layout::look(t, CAPACITY, &row);
+    let key = circuit_layout::row(scope, address);
+    let found = circuit_layout::look(t, CAPACITY, &key);
     let Found::At(at) = found else {
         return NOT_PRESENT;
     };

@@ -2,7 +2,7 @@
 use Prim.Native.Nat.{ℕ, zero, suc}
 use mathlib.Core.Path.{_≡_, refl}
 use mathlib.Core.Bool.{Bool, true, false, cond, not, _||_, _&&_, false≢true, or-not-self}
-use mathlib.Core.List.{List, [], _∷_}
+use mathlib.Core.List.{List, [], _∷_, _++_}
 use lib.ListN.{getD, take, drop}
 use lib.Dec.{eqb}
 use borrow.Author.Tests.{eqb-false}
@@ -38,6 +38,16 @@ pub refused-none : (cs : List Check) → Passed cs → 0 ≡ firstRefusal cs
 unfolding firstRefusal
 refused-none [] p = refl
 refused-none (c ∷ cs) p = rw (p .0) (refused-none cs (p .1))
+
+-- what is refused by the first checks is refused, whatever the others say
+pub refused-first : (cs ds : List Check) → (firstRefusal cs ≡ 0 → ⊥) → firstRefusal cs ≡ firstRefusal (cs ++ ds)
+unfolding firstRefusal
+refused-first [] ds n = absurd (n refl)
+refused-first (c ∷ cs) ds n = go (c .0) (refused-first cs ds) n
+  where
+    go : (b : Bool) → ((firstRefusal cs ≡ 0 → ⊥) → firstRefusal cs ≡ firstRefusal (cs ++ ds)) → (cond b (c .1) (firstRefusal cs) ≡ 0 → ⊥) → cond b (c .1) (firstRefusal cs) ≡ cond b (c .1) (firstRefusal (cs ++ ds))
+    go true ih m = refl
+    go false ih m = ih m
 
 -- and back: where the answer is 0, no test holds
 pub passed : (cs : List Check) → telling cs ≡ true → firstRefusal cs ≡ 0 → Passed cs

@@ -17,18 +17,18 @@ use Rattle.rows.proofs.Places.{missing-le}
 use Rattle.circuit_layout.specs.declared.Scope.{Scope}
 use Rattle.circuit_layout.specs.Circuits.{adRow, reservedScope, circuitsIn}
 use Rattle.circuit_layout.proofs.Words.{length-row}
-use Rattle.circuits.proofs.Calls.{announced-zero, announced-reserved, announced-at, announced-full, announced-new}
+use Rattle.circuits.proofs.Calls.{not-refused, announced-refused, announced-at, announced-full, announced-new}
 use Rattle.circuits.proofs.Told.{left-alone, announced-stored, same-route}
 use Rattle.circuits.proofs.announce.Statement.{statement}
 use Rattle.circuits.proofs.announce.Tie as tie
 
 -- what is known once the route was looked for
 module _ (k : tie.After-look) where
-  abbrev tested : tie.Else2
+  abbrev tested : tie.Else1
   tested = k .before .before .before .before
 
   abbrev from : tie.Start
-  from = tested .before .before .before .before .before
+  from = tested .before .before .before
 
   abbrev words : List ℕ
   words = from .args .t .now
@@ -39,11 +39,8 @@ module _ (k : tie.After-look) where
   abbrev a : List ℕ
   a = addressRow (from .args .address)
 
-  zero : isZero a ≡ false
-  zero = sym (tested .before .before .before .is-zero .ensures) ∙ tested .before .before .if1 .left
-
-  tag : reservedScope s ≡ false
-  tag = sym (tested .before .is-reserved .ensures) ∙ tested .if2 .left
+  passed : (isZero a ≡ false) × (reservedScope s ≡ false)
+  passed = not-refused s a (sym (tested .before .refused .ensures) ∙ tested .if1 .left)
 
   width : length (adRow s a) ≡ 7
   width = omega (arith, length-row s a, length-address a (row-address (from .args .address)))
@@ -61,32 +58,25 @@ returns : tie.Need-returns
 returns c =
     let start = c .before .before .before in
     let b = start .args .t .now in
-    left-alone b (start .pre) _ 6 (announced-zero (circuitsIn b) (start .pre .sound) (start .args .scope) (addressRow (start .args .address)) (sym (c .before .is-zero .ensures) ∙ c .if1 .taken))
+    left-alone b (start .pre) _ _ (announced-refused (circuitsIn b) (start .pre .sound) (start .args .scope) (addressRow (start .args .address)) _ (c .before .refused .ensures) (c .if1 .taken))
 
 returns-2 : tie.Need-returns-2
 returns-2 c =
-    let tested = c .before .before in
-    let start = tested .before .before .before in
-    let b = start .args .t .now in
-    left-alone b (start .pre) _ 10 (announced-reserved (circuitsIn b) (start .pre .sound) (start .args .scope) (addressRow (start .args .address)) (sym (tested .before .is-zero .ensures) ∙ tested .if1 .left) (sym (c .before .is-reserved .ensures) ∙ c .if2 .taken))
-
-returns-3 : tie.Need-returns-3
-returns-3 c =
     let k = c .before .before in
     let b = words k in
     let f = found k _ (c .enum-told .given .1) in
-    let same = same-route b (from k .pre) (s k) (a k) _ (width k) (row-fits k) (λ j. tested k .before .before .before .before .slice-known .given j .fits) f in
-    left-alone b (from k .pre) _ 0 (announced-at (circuitsIn b) (from k .pre .sound) (s k) (a k) (zero k) (tag k) _ f same)
+    let same = same-route b (from k .pre) (s k) (a k) _ (width k) (row-fits k) (λ j. tested k .before .before .slice-known .given j .fits) f in
+    left-alone b (from k .pre) _ 0 (announced-at (circuitsIn b) (from k .pre .sound) (s k) (a k) (passed k .0) (passed k .1) _ f same)
 
 -- the look, once it is known that the route is new
 abbrev looked : tie.After-count → tie.After-look
 looked n = n .before .before .before .before .before
 
-returns-4 : tie.Need-returns-4
-returns-4 c =
+returns-3 : tie.Need-returns-3
+returns-3 c =
     let n = c .before in
     let k = looked n in
-    left-alone (words k) (from k .pre) _ 8 (announced-full (circuitsIn (words k)) (from k .pre .sound) (s k) (a k) (zero k) (tag k) _ (found k _ (n .before .before .before .found .given .1)) (rw (← n .count .ensures) (omega arith)))
+    left-alone (words k) (from k .pre) _ 8 (announced-full (circuitsIn (words k)) (from k .pre .sound) (s k) (a k) (passed k .0) (passed k .1) _ (found k _ (n .before .before .before .found .given .1)) (rw (← n .count .ensures) (omega arith)))
 
 grow-requires : tie.Need-grow-requires
 grow-requires c κs =
@@ -94,13 +84,13 @@ grow-requires c κs =
     let k = looked n in
     (from k .pre, missing-le rowKey _ (circuitsIn (words k)) _ (found k _ (n .before .before .before .found .given .1)), rw (← n .count .ensures) (omega arith), rw (k .before .before .before .row .ensures) (width k))
 
-returns-5 : tie.Need-returns-5
-returns-5 c =
+returns-4 : tie.Need-returns-4
+returns-4 c =
     let d = c .before .before in
     let n = d .before .before .before .before in
     let k = looked n in
     announced-stored (words k) (from k .pre) (s k) (a k) _ _ (row-address (from k .args .address))
-    (announced-new (circuitsIn (words k)) (from k .pre .sound) (s k) (a k) (zero k) (tag k) _ (found k _ (n .before .before .before .found .given .1)) (rw (← n .count .ensures) (omega arith)))
+    (announced-new (circuitsIn (words k)) (from k .pre .sound) (s k) (a k) (passed k .0) (passed k .1) _ (found k _ (n .before .before .before .found .given .1)) (rw (← n .count .ensures) (omega arith)))
     (rw (k .before .before .before .row .ensures) at (d .grow .ensures))
 
 pub announce-spec : {M : Type 1} → statement M
@@ -110,18 +100,16 @@ announce-spec =
     (λ c κs. search needs)
     returns
     (λ c κs. search needs)
+    (λ c. search needs)
+    (λ c κs. search needs)
+    (λ c. search needs)
+    (λ c. search needs)
+    (λ c. search needs)
     returns-2
     (λ c κs. search needs)
     (λ c. search needs)
-    (λ c κs. search needs)
-    (λ c. search needs)
-    (λ c. search needs)
-    (λ c. search needs)
     returns-3
-    (λ c κs. search needs)
-    (λ c. search needs)
-    returns-4
     (λ c. search needs)
     grow-requires
     (λ c. search needs)
-    returns-5)
+    returns-4)
