@@ -1,10 +1,11 @@
 -- `look` meets its contract: the rows of the table are its routes. Assumes nothing.
 use Prim.Native.Nat.{ℕ}
 use native.Mathlib.Omega.{arith}
-use mathlib.Core.Path.{_≡_, ap, ap₂, _∙_}
+use mathlib.Core.Path.{_≡_, ap, ap₂, _∙_, sym, subst}
 use mathlib.Core.List.{List}
 use lib.ListN.{length}
 use borrow.Author.Needs.{needs}
+use Rattle.keyed.specs.Keyed.{Rising}
 use Rattle.rows.specs.Rows.{rowsIn, rowKey, foundIn}
 use Rattle.circuit_layout.specs.Circuits.{circuitsIn}
 use Rattle.circuit_layout.proofs.Words.{length-valid, short, rows-are}
@@ -24,7 +25,7 @@ module _ (r : tie.After-count) where
 search-requires : tie.Need-search-requires
 search-requires c κs =
     let start = from c in
-    (rw (start .pre .1) (omega (arith, c .count .ensures, short (words c) (start .pre .0), length-valid (words c) (start .pre .0))), rw (rows c) (start .pre .0 .sound .rising))
+    (rw (start .pre .1) (omega (arith, c .count .ensures, short (words c) (start .pre .0), length-valid (words c) (start .pre .0))), subst (λ (l : List (List ℕ)). Rising rowKey 0 l) (sym (rows c)) (start .pre .0 .sound .rising))
 
 returns : tie.Need-returns
 returns c = c .search .ensures .0 ∙ ap (λ (l : List (List ℕ)). foundIn rowKey (rowKey (from (c .before) .args .row .now)) l) (rows (c .before))
