@@ -54,8 +54,8 @@ pub fn grow(t: &mut [u32], at: usize, address: Address, word: u32)
     let n = layout::count(t);
     let row = address::row(address);
     let words = [word];
-    rows::insert(t, n, at, &row);
-    rows::insert(&mut t[ATTRIBUTES..], n, at, &words);
+    gaps::insert(t, n, at, &row);
+    gaps::insert(&mut t[ATTRIBUTES..], n, at, &words);
     let more = n + 1;
     t[COUNT] = more as u32;
 }
@@ -66,8 +66,8 @@ pub fn shrink(t: &mut [u32], at: usize)
     ensures { λ _. ⌜ now (t .exit) ≡ wordsOf (tableOf (tableIn (now (t .entry)) .esi) (dropAt (tableIn (now (t .entry)) .entries) at)) ⌝ }
 {
     let n = layout::count(t);
-    rows::remove(t, n, address::WIDTH, at);
-    rows::remove(&mut t[ATTRIBUTES..], n, 1, at);
+    gaps::remove(t, n, address::WIDTH, at);
+    gaps::remove(&mut t[ATTRIBUTES..], n, 1, at);
     let less = n - 1;
     t[COUNT] = less as u32;
 }
