@@ -18,7 +18,7 @@ fn item_answer(m: Machine, kind: u8, event: u8, number: u32) -> Answer
     ensures { λ r. ⌜ r ≡ itemAnswer m kind event number ⌝ }
 {
     if kind == 0 {
-        return fsm::drive_number(m, event, number);
+        return fsm_numbers::drive_number(m, event, number);
     }
     if kind == 1 {
         return Answer {

@@ -4,11 +4,11 @@ use mathlib.Core.Path.{_∙_, sym, ap}
 use Prim.Native.Nat.{_≤_}
 use mathlib.Core.List.{[], _∷_}
 use lib.ListN.{length}
 use Rattle.lines.specs.Lines.{dotted}
 use Rattle.lines.proofs.Laws.{put-as, put-front, put-length, length-dotted}
 use borrow.Author.Needs.{needs}
-use Rattle.lines.proofs.put_dotted.Statement.{statement}
-use Rattle.lines.proofs.put_dotted.Tie as tie
+use Rattle.numerals.proofs.put_dotted.Statement.{statement}
+use Rattle.numerals.proofs.put_dotted.Tie as tie
 
 room : (s : tie.Start) → length (dotted (s .args .a ∷ s .args .b ∷ s .args .c ∷ s .args .d ∷ [])) ≤ 15
 room s = length-dotted (s .args .a) (s .args .b) (s .args .c) (s .args .d) (s .fits .a .fits) (s .fits .b .fits) (s .fits .c .fits) (s .fits .d .fits)

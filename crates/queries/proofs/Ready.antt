@@ -1,10 +1,10 @@
 -- The rows of the addresses in a query are a ready list that names just these. Assumes nothing.
-use Prim.Native.Nat.{ℕ, _*_, _/_}
+use Prim.Native.Nat.{ℕ, _/_}
 use native.Mathlib.Omega.{arith}
 use mathlib.Core.Path.{_≡_, refl, ap, ap₂, _∙_, sym}
 use mathlib.Core.Bool.{Bool, true, false}
-use mathlib.Core.List.{List, [], _∷_, _++_, map, append-nil}
-use lib.ListN.{length, length-map}
+use mathlib.Core.List.{List, [], _∷_, map, append-nil}
+use lib.ListN.{length}
 use Rattle.lists.specs.Lists.{Every}
 use Rattle.rows.specs.Rows.{rowsIn, flat}
 use Rattle.rows.proofs.Columns.{Wide, length-flat, rows-flat}

@@ -1,15 +1,15 @@
 -- `put_hex` meets its contract. The loop's invariant: the digits of the octets before i stand at the front of the text. Assumes nothing.
 use Prim.Native.Nat.{_*_, _-_, _≤_}
 use native.Mathlib.Omega.{arith}
-use mathlib.Core.Path.{_≡_, refl, ap, _∙_, sym}
+use mathlib.Core.Path.{_≡_, refl, _∙_, sym}
 use lib.ListN.{length, take, length-set}
 use lib.Seq.{take-all}
 use Rattle.lines.specs.Lines.{hex}
 use Rattle.lines.proofs.Laws.{length-hex, put-as}
-use Rattle.lines.proofs.Steps.{hex-turn}
+use Rattle.numerals.proofs.Steps.{hex-turn}
 use borrow.Author.Needs.{needs}
-use Rattle.lines.proofs.put_hex.Statement.{statement}
-use Rattle.lines.proofs.put_hex.Tie as tie
+use Rattle.numerals.proofs.put_hex.Statement.{statement}
+use Rattle.numerals.proofs.put_hex.Tie as tie
 
 abbrev Inv-loop : tie.InvT-loop
 Inv-loop buf at s text₀ i₀ text i = (i ≤ 16) × (length s ≡ 16) × (length text ≡ 32) × (take (2 * i) text ≡ take (2 * i) (hex s))

@@ -1,9 +1,9 @@
 -- `drive_number` meets its contract: the event of the number, or none. Assumes nothing.
 use borrow.Author.Needs.{needs}
 use mathlib.Core.Path.{sym, _∙_}
-use Rattle.fsm.proofs.Laws.{numbered, refused}
-use Rattle.fsm.proofs.drive_number.Statement.{statement}
-use Rattle.fsm.proofs.drive_number.Tie as tie
+use Rattle.fsm_numbers.proofs.Laws.{numbered, refused}
+use Rattle.fsm_numbers.proofs.drive_number.Statement.{statement}
+use Rattle.fsm_numbers.proofs.drive_number.Tie as tie
 
 returns : tie.Need-returns
 returns c =

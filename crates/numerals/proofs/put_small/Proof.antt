@@ -1,10 +1,10 @@
 -- `put_small` meets its contract: one, two or three digits. Assumes nothing.
 use native.Mathlib.Omega.{arith}
 use Rattle.lines.proofs.Laws.{decimal-three}
-use Rattle.lines.proofs.Steps.{small-one, small-two}
+use Rattle.numerals.proofs.Steps.{small-one, small-two}
 use borrow.Author.Needs.{needs}
-use Rattle.lines.proofs.put_small.Statement.{statement}
-use Rattle.lines.proofs.put_small.Tie as tie
+use Rattle.numerals.proofs.put_small.Statement.{statement}
+use Rattle.numerals.proofs.put_small.Tie as tie
 
 returns : tie.Need-returns
 returns c =

@@ -5,10 +5,10 @@ use native.Mathlib.Omega.{arith}
 use mathlib.Core.Path.{_≡_, _∙_, sym}
 use mathlib.Core.List.{_++_, append-nil}
 use lib.ListN.{length, drop, length-set, drop-of-length-le}
 use Rattle.lines.specs.Lines.{decimal}
-use Rattle.lines.proofs.Steps.{spell-more, spell-first, spell-room}
-use Rattle.lines.proofs.spell.Statement.{statement}
-use Rattle.lines.proofs.spell.Tie as tie
+use Rattle.numerals.proofs.Steps.{spell-more, spell-first, spell-room}
+use Rattle.numerals.proofs.spell.Statement.{statement}
+use Rattle.numerals.proofs.spell.Tie as tie
 
 abbrev Inv-loop : tie.InvT-loop
 Inv-loop text₀ n i₀ rest₀ text i rest = (0 < i) × (i ≤ 20) × (length text ≡ 20) × (rest < 10 ^ i) × (decimal rest ++ drop i text ≡ decimal n)

@@ -1,9 +1,9 @@
 -- `event_of` meets its contract: each number has its event, and a number above 6 has none. Assumes nothing.
 use mathlib.Core.Path.{sym, ap}
-use Rattle.fsm.specs.Machine.{eventOf}
-use Rattle.fsm.proofs.Laws.{unnumbered}
-use Rattle.fsm.proofs.event_of.Statement.{statement}
-use Rattle.fsm.proofs.event_of.Tie as tie
+use Rattle.fsm_numbers.specs.Numbers.{eventOf}
+use Rattle.fsm_numbers.proofs.Laws.{unnumbered}
+use Rattle.fsm_numbers.proofs.event_of.Statement.{statement}
+use Rattle.fsm_numbers.proofs.event_of.Tie as tie
 
 returns : tie.Need-returns
 unfolding eventOf

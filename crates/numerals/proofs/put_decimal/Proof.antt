@@ -4,10 +4,10 @@ use native.Mathlib.Omega.{arith}
 use mathlib.Core.Path.{_∙_}
 use lib.ListN.{length, drop, length-drop}
 use lib.Seq.{take-all}
 use Rattle.lines.proofs.Laws.{put-as}
 use borrow.Author.Needs.{needs}
-use Rattle.lines.proofs.put_decimal.Statement.{statement}
-use Rattle.lines.proofs.put_decimal.Tie as tie
+use Rattle.numerals.proofs.put_decimal.Statement.{statement}
+use Rattle.numerals.proofs.put_decimal.Tie as tie
 
 returns-2 : tie.Need-returns-2
 returns-2 c =

@@ -1,10 +1,10 @@
 -- `spell_dotted` meets its contract: four octets and three dots, put one after the other, are one piece. Assumes nothing.
 use native.Mathlib.Omega.{arith}
 use Rattle.lines.proofs.Laws.{put-all, put-next, length-dotted}
-use Rattle.lines.proofs.Steps.{dotted-parts}
+use Rattle.numerals.proofs.Steps.{dotted-parts}
 use borrow.Author.Needs.{needs}
-use Rattle.lines.proofs.spell_dotted.Statement.{statement}
-use Rattle.lines.proofs.spell_dotted.Tie as tie
+use Rattle.numerals.proofs.spell_dotted.Statement.{statement}
+use Rattle.numerals.proofs.spell_dotted.Tie as tie
 
 returns : tie.Need-returns
 returns c =

@@ -10,11 +10,11 @@ use Rattle.octets.specs.Octets.{numberOf}
 use Rattle.ready.specs.Ready.{readyIn}
 use Rattle.payloads.specs.Payloads.{sizeOf, addressesIn}
 use Rattle.payloads.proofs.Laws.{size-pos, addresses-few}
-use Rattle.turns.proofs.Ready.{ready-flat}
+use Rattle.queries.proofs.Ready.{ready-flat}
 use Rattle.turns.proofs.Laws.{four-front, take-of-all, stepped-query}
 use borrow.Author.Needs.{needs}
-use Rattle.turns.proofs.query.Statement.{statement}
-use Rattle.turns.proofs.query.Tie as tie
+use Rattle.queries.proofs.query.Statement.{statement}
+use Rattle.queries.proofs.query.Tie as tie
 
 -- what is known once the size of an address is
 module _ (z : tie.After-size) where
