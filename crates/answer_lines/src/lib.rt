@@ -24,10 +24,10 @@ pub fn put_line(out: &mut [u8], at: usize, letter: u8, number: u8) -> usize
     requires { ⌜ at + 48 ≤ length (now out) ⌝ }
     ensures { λ r. ⌜ Written (now (out .entry)) at (line letter number) r (now (out .exit)) ⌝ }
 {
-    let mut end = lines::put_octet(out, at, letter);
-    end = lines::put_octet(out, end, b' ');
-    end = numerals::put_decimal(out, end, number as u64);
-    lines::put_octet(out, end, b'\n')
+    let mut next = lines::put_octet(out, at, letter);
+    next = lines::put_octet(out, next, b' ');
+    next = numerals::put_decimal(out, next, number as u64);
+    lines::put_octet(out, next, b'\n')
 }
 
 // Puts the line of a letter, a number and an offset.

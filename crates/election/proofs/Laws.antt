@@ -12,6 +12,7 @@ use lib.Pow.{pow-mono}
 use borrow.Author.Tests.{lt-ltb, le-ltb, eq-eqb, ne-eqb, ltb-true, eqb-true, eqb-false}
 use Rattle.lists.proofs.Lists.{empty, at-mem}
 use Rattle.keyed.specs.Keyed.{Rising}
+use Rattle.address.specs.Address.{familyOf, addressWords}
 use Rattle.layout.specs.Table.{Entry, entryKey, noEntry, Table, WellFormed}
 use Rattle.places.specs.Places.{places, setOf}
 use Rattle.places.proofs.Laws.{places-none, places-empty, length-places, places-under}
@@ -122,18 +123,19 @@ module _ (t : Table) (w : WellFormed t) (tag : ℕ) (ready : List (List ℕ)) wh
       let none-there : length cs ≡ 0 = length-cs ∙ ap (λ (x : ℕ). length (places x)) (sym e ∙ z) ∙ ap length places-none in
       (rw (eq-eqb (length cs) 0 none-there), ones-none)
 
-  pub answers : (v : InUse) (s d at n : ℕ) → v ≡ u → s ≡ set → (s ≡ 0 → ⊥) → d ≡ digestUnder (v .algorithm) tag (t .esi)
+  pub answers : (v : InUse) (s d at n f : ℕ) (x : List ℕ) → v ≡ u → s ≡ set → (s ≡ 0 → ⊥) → d ≡ digestUnder (v .algorithm) tag (t .esi)
       → getD es at noEntry ≡ elected (v .algorithm) tag d (entriesAt es (places s)) → n ≡ length (places s) → n ≡ ones s
-      → Answers (namedAnswer (getD es at noEntry .address) (v .algorithm) n s)
+      → f ≡ familyOf (getD es at noEntry .address) → x ≡ addressWords (getD es at noEntry .address)
+      → Answers (record { number = 0; family = f; address = x; algorithm = v .algorithm; n = n; candidates = s })
   unfolding answerOf answerFor
-  answers v s d at n a e z f g m o =
+  answers v s d at n f x a e z b g m o p q =
       let some : length cs ≡ 0 → ⊥ = λ q. z (e ∙ places-empty set fits (empty (places set) (sym length-cs ∙ q))) in
       let who : getD es at noEntry ≡ elected (u .algorithm) tag (digestOf tag (t .esi)) cs =
-      g ∙ ap (λ (x : ℕ). elected (v .algorithm) tag x (entriesAt es (places s))) f
+      g ∙ ap (λ (x : ℕ). elected (v .algorithm) tag x (entriesAt es (places s))) b
       ∙ elected-under (v .algorithm) tag (t .esi) (entriesAt es (places s))
       ∙ ap₂ (λ (x : InUse) (l : List Entry). elected (x .algorithm) tag (digestOf tag (t .esi)) l) a (ap (λ (y : ℕ). entriesAt es (places y)) e ∙ sym by-places) in
       let count : n ≡ length cs = m ∙ ap (λ (y : ℕ). length (places y)) e ∙ sym length-cs in
-      (rw (who, a, count, e, ne-eqb (length cs) 0 some), o)
+      (rw (p, q, who, a, count, e, ne-eqb (length cs) 0 some), o)
 
   -- once 10 and 11 are passed, and where they refuse
   abbrev pub Elects : Answer → Type 0

@@ -1,5 +1,6 @@
 -- `elect_accepted` meets its contract: the set is that of the candidates, and the place the elected one among them. Assumes nothing.
 use mathlib.Core.Path.{_≡_, ap, _∙_}
+use native.Mathlib.Omega.{arith}
 use borrow.Author.Needs.{needs}
 use denote.Ref.{now}
 use Rattle.layout.specs.Table.{Table}
@@ -31,6 +32,11 @@ elected-place-requires c κs =
     let j = c .before .before in
     (from j .pre, c .before .if1 .left, rw (is-set j) (set-under (table j) (from j .pre .sound) (from j .args .tag) (readyIn (now (from j .args .ready)))))
 
+words-at-requires : tie.Need-words-at-requires
+words-at-requires c κs =
+    let placed = c .before .before in
+    (from (placed .before .before .before) .pre, omega (arith, placed .elected-place .ensures .0))
+
 returns-2 : tie.Need-returns-2
 returns-2 c =
     let told = c in
@@ -40,8 +46,9 @@ returns-2 c =
     let digested = placed .before in
     let tested = digested .before in
     let j = tested .before in
-    rw (known .family-at .ensures, told .words-at .ensures)
-    (answers (table j) (from j .pre .sound) (from j .args .tag) (readyIn (now (from j .args .ready))) _ _ _ _ _ (j .before .in-use .ensures) (is-set j) (tested .if1 .left) (digested .digest-under .ensures) (placed .elected-place .ensures .1) (counted .count .ensures .0) (counted .count .ensures .1))
+    answers (table j) (from j .pre .sound) (from j .args .tag) (readyIn (now (from j .args .ready))) _ _ _ (placed .elected-place .result) _ _ _
+    (j .before .in-use .ensures) (is-set j) (tested .if1 .left) (digested .digest-under .ensures) (placed .elected-place .ensures .1)
+    (omega (arith, counted .count .ensures .0)) (omega (arith, counted .count .ensures .1)) (omega (arith, known .family-at .ensures)) (told .words-at .ensures)
 
 pub elect-accepted-spec : {M : Type 1} → statement M
 elect-accepted-spec =
@@ -55,5 +62,5 @@ elect-accepted-spec =
     elected-place-requires
     (λ c κs. search needs)
     (λ c κs. search needs)
-    (λ c κs. search needs)
+    words-at-requires
     returns-2)
