@@ -24,10 +24,10 @@ pub fn put_line(out: &mut [u8], at: usize, letter: u8, number: u8) -> usize
     requires { ⌜ at + 48 ≤ length (now out) ⌝ }
     ensures { λ r. ⌜ Written (now (out .entry)) at (line letter number) r (now (out .exit)) ⌝ }
 {
-    let mut end = lines::put_octet(out, at, letter);
-    end = lines::put_octet(out, end, b' ');
-    end = lines::put_decimal(out, end, number as u64);
-    lines::put_octet(out, end, b'\n')
+    let mut next = lines::put_octet(out, at, letter);
+    next = lines::put_octet(out, next, b' ');
+    next = numerals::put_decimal(out, next, number as u64);
+    lines::put_octet(out, next, b'\n')
 }
 
 // Puts the line of a letter, a number and an offset.
@@ -37,9 +37,9 @@ fn put_offset(out: &mut [u8], at: usize, letter: u8, number: u8, offset: usize) 
 {
     let mut end = lines::put_octet(out, at, letter);
     end = lines::put_octet(out, end, b' ');
-    end = lines::put_decimal(out, end, number as u64);
+    end = numerals::put_decimal(out, end, number as u64);
     end = lines::put_octet(out, end, b' ');
-    end = lines::put_decimal(out, end, offset as u64);
+    end = numerals::put_decimal(out, end, offset as u64);
     lines::put_octet(out, end, b'\n')
 }
 
@@ -72,10 +72,10 @@ fn put_address(out: &mut [u8], at: usize, family: u8, a: [u32; 4]) -> usize
 {
     if family == 6 {
         let octets = address::octets(a[0], a[1], a[2], a[3]);
-        return lines::put_hex(out, at, octets);
+        return numerals::put_hex(out, at, octets);
     }
     let o = octets::of_u32(a[0]);
-    lines::put_dotted(out, at, o[0], o[1], o[2], o[3])
+    numerals::put_dotted(out, at, o[0], o[1], o[2], o[3])
 }
 
 // Puts the line of an accepted query.
@@ -86,7 +86,7 @@ fn put_elected(out: &mut [u8], at: usize, family: u8, address: [u32; 4], n: u32)
     let mut end = lines::put_run(out, at, b"q 0 ");
     end = put_address(out, end, family, address);
     end = lines::put_octet(out, end, b' ');
-    end = lines::put_decimal(out, end, n as u64);
+    end = numerals::put_decimal(out, end, n as u64);
     lines::put_octet(out, end, b'\n')
 }
 

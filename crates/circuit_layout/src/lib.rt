@@ -69,7 +69,7 @@ pub fn grow(t: &mut [u32], at: usize, row: &[u32])
     ensures { λ _. ⌜ now (t .exit) ≡ circuitWords (spliced (circuitsIn (now (t .entry))) at (now (row .entry))) ⌝ }
 {
     let n = count(t);
-    rows::insert(t, n, at, row);
+    gaps::insert(t, n, at, row);
     let more = n + 1;
     t[COUNT] = more as u32;
 }
@@ -80,7 +80,7 @@ pub fn shrink(t: &mut [u32], at: usize)
     ensures { λ _. ⌜ now (t .exit) ≡ circuitWords (dropAt (circuitsIn (now (t .entry))) at) ⌝ }
 {
     let n = count(t);
-    rows::remove(t, n, WIDTH, at);
+    gaps::remove(t, n, WIDTH, at);
     let less = n - 1;
     t[COUNT] = less as u32;
 }

@@ -68,7 +68,7 @@ fn text_without_fault() {
 
 // What reading a route tells.
 fn show_route(name: &[u8], octets: &[u8], wanted: u64, wanted_offset: u64) {
-    let read = route::read(octets);
+    let read = route_fields::read(octets);
     show_offset(
         name,
         read.number as u64,

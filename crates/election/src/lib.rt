@@ -37,7 +37,7 @@ fn digest_under(t: &[u32], algorithm: u8, tag: u32) -> u32
     if algorithm != 1 {
         return 0;
     }
-    let esi = layout::identifier(t);
+    let esi = owner::identifier(t);
     hrw::digest(tag, esi)
 }
 

@@ -50,7 +50,7 @@ pub fn route_of(n: u8) -> [u8; 25] {
     let esi = identifier();
     let distinguisher = [0u8; 8];
     let mut octets = [0u8; 25];
-    route::write(&mut octets, &distinguisher, &esi, router(n));
+    route_fields::write(&mut octets, &distinguisher, &esi, router(n));
     octets
 }
 

@@ -195,11 +195,11 @@ pub record WholeAt (s : List ℕ) (at k start len : ℕ) : Type 0 where
   pub fits : start + len ≤ length s
   pub stands : front (drop at s) ≡ whole k (take len (drop start s)) (drop (start + len) s)
 
-abbrev pub Told : List ℕ → ℕ → Frame → Type 0
-Told s at Nothing = drop at s ≡ []
-Told s at Bad = front (drop at s) ≡ bad
-Told s at Cut = front (drop at s) ≡ cut
-Told s at (Whole k start len) = WholeAt s at k start len
+abbrev pub FrameSays : List ℕ → ℕ → Frame → Type 0
+FrameSays s at Nothing = drop at s ≡ []
+FrameSays s at Bad = front (drop at s) ≡ bad
+FrameSays s at Cut = front (drop at s) ≡ cut
+FrameSays s at (Whole k start len) = WholeAt s at k start len
 
 whole-at : (s : List ℕ) (at k : ℕ) (p r : List ℕ) → front (drop at s) ≡ whole k p r → WholeAt s at k (at + 4) (length p)
 whole-at s at k p r e =
@@ -210,7 +210,7 @@ whole-at s at k p r e =
     let o : drop (at + 4 + length p) s ≡ r = sym (drop-drop (length p) (at + 4) s) ∙ ap (drop (length p)) b ∙ drop-append-seam p r in
     record { begins = refl; fits = omega (arith, l, length-append p r, length-drop at s); stands = rw (q, o) e }
 
-told-located : (s : List ℕ) (at : ℕ) (f : Front) → front (drop at s) ≡ f → Told s at (located at f)
+told-located : (s : List ℕ) (at : ℕ) (f : Front) → front (drop at s) ≡ f → FrameSays s at (located at f)
 unfolding located
 told-located s at nothing e = nothing-empty (drop at s) e
 told-located s at bad e = e
@@ -218,9 +218,9 @@ told-located s at cut e = e
 told-located s at (whole k p r) e = whole-at s at k p r e
 
 -- what an answer tells of the octets at its position
-pub frame-told : (s : List ℕ) (at : ℕ) {r : Frame} → frameAt s at ≡ r → Told s at r
+pub frame-told : (s : List ℕ) (at : ℕ) {r : Frame} → frameAt s at ≡ r → FrameSays s at r
 unfolding frameAt
-frame-told s at e = subst (λ (r : Frame). Told s at r) e (told-located s at (front (drop at s)) refl)
+frame-told s at e = subst (λ (r : Frame). FrameSays s at r) e (told-located s at (front (drop at s)) refl)
 
 -- the lengths at a position
 pub whole-at-length : (s : List ℕ) {at k start len : ℕ} → getD s (at + 3) 0 < 256 → WholeAt s at k start len → len < 256

@@ -6,8 +6,6 @@
 --   due-wait, due-else     whether a reading is due, in DF_WAIT and elsewhere
 --   driven-up, driven-else the machine after an event that starts the wait, and after another
 --   ticked, unticked       the machine after a reading that is due, and after another
---   unnumbered             a number above 6 has no event
---   numbered, refused      the answer to an event's number, and to another number
 --   made, unmade-zero, unmade-long   the answer to a wait from 1 to 600, to 0 and to a longer one
 -- Assumes nothing.
 use Prim.Native.Nat.{ℕ, _+_, _%_, _^_, _<_, _≤_}
@@ -17,14 +15,13 @@ use mathlib.Core.Bool.{true, false}
 use mathlib.Core.List.{List, [], _∷_, map}
 use lib.ListN.{getD}
 use lib.Dec.{leb}
-use borrow.Author.Tests.{le-leb, lt-leb, ne-eqb}
+use borrow.Author.Tests.{le-leb, lt-leb}
 use Rattle.fsm.specs.declared.State.{State}
 use Rattle.fsm.specs.declared.State.the-variants.{Init, DfWait, DfCalc, DfDone}
 use Rattle.fsm.specs.declared.Event.{Event}
 use Rattle.fsm.specs.declared.Event.the-variants.{EsUp, EsDown, VlanChange, RcvdEs, LostEs, DfTimer, Calculated}
-use Rattle.fsm.specs.declared.Numbered.the-variants.{Is, Nothing}
 use Rattle.fsm.specs.declared.Machine.{Machine}
-use Rattle.fsm.specs.Machine.{stateNumber, eventNumber, eventOf, inState, nextState, starts, waitedOf, due, inInit, madeOf, driveOf, tickOf, numberedAnswer, drivenOf}
+use Rattle.fsm.specs.Machine.{stateNumber, eventNumber, inState, nextState, starts, waitedOf, due, inInit, madeOf, driveOf, tickOf}
 
 -- ---- the table
 abbrev pub states : List State
@@ -103,19 +100,6 @@ ticked m now e = rw e
 pub unticked : (m : Machine) (now : ℕ) → due m now ≡ false → m ≡ tickOf m now
 unfolding tickOf
 unticked m now e = rw e
-
-pub numbered : (m : Machine) (n now : ℕ) (e : Event) (r : Machine) → eventOf n ≡ Is e → r ≡ driveOf m e now → record { number = 0; machine = r } ≡ drivenOf m n now
-unfolding drivenOf numberedAnswer
-numbered m n now e r i d = rw (i, d)
-
-pub refused : (m : Machine) (n now : ℕ) → eventOf n ≡ Nothing → record { number = 23; machine = m } ≡ drivenOf m n now
-unfolding drivenOf numberedAnswer
-refused m n now i = rw i
-
-pub unnumbered : (n : ℕ) → (n ≡ 0 → ⊥) → (n ≡ 1 → ⊥) → (n ≡ 2 → ⊥) → (n ≡ 3 → ⊥) → (n ≡ 4 → ⊥) → (n ≡ 5 → ⊥) → (n ≡ 6 → ⊥) → Nothing ≡ eventOf n
-unfolding eventOf
-unnumbered n a b c d e f g =
-    rw (ne-eqb n 0 a, ne-eqb n 1 b, ne-eqb n 2 c, ne-eqb n 3 d, ne-eqb n 4 e, ne-eqb n 5 f, ne-eqb n 6 g)
 
 pub made : (w : ℕ) → (w ≡ 0 → ⊥) → w ≤ 600 → record { number = 0; machine = inInit w } ≡ madeOf w
 unfolding madeOf

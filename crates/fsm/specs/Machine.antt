@@ -1,7 +1,6 @@
 -- The DF election finite state machine (document 02, M-100; RFC 8584, section 2.1).
 --   stateNumber s       == the number of the state s: INIT 0, DF_WAIT 1, DF_CALC 2, DF_DONE 3
 --   eventNumber e       == the number of the event e: ES_UP 0, ES_DOWN 1, VLAN_CHANGE 2, RCVD_ES 3, LOST_ES 4, DF_TIMER 5, CALCULATED 6
---   eventOf n           == the event of the number n, if it has one
 --   inState a s         == whether the state s is a
 --   moves a b s         == b where the state s is a; every other state stays
 --   nextState s e       == the next state
@@ -12,18 +11,14 @@
 --   madeOf w            == the answer to making a machine with the wait w
 --   driveOf m e now     == the machine m after the event e, with the clock reading handed in
 --   tickOf m now        == the machine m after a clock reading alone
---   numberedAnswer m now e == the answer for the event e, or 23 for nothing
---   drivenOf m n now    == the answer for an event that is handed in as the number n
 use Prim.Native.Nat.{ℕ, _+_, _-_, _%_, _^_}
 use mathlib.Core.Bool.{Bool, cond, _&&_}
 use lib.Dec.{leb, eqb}
-use Rattle.refusals.specs.Refusals.{waitOutOfRange, eventUnknown}
+use Rattle.refusals.specs.Refusals.{waitOutOfRange}
 use Rattle.fsm.specs.declared.State.{State}
 use Rattle.fsm.specs.declared.State.the-variants.{Init, DfWait, DfCalc, DfDone}
 use Rattle.fsm.specs.declared.Event.{Event}
 use Rattle.fsm.specs.declared.Event.the-variants.{EsUp, EsDown, VlanChange, RcvdEs, LostEs, DfTimer, Calculated}
-use Rattle.fsm.specs.declared.Numbered.{Numbered}
-use Rattle.fsm.specs.declared.Numbered.the-variants.{Is, Nothing}
 use Rattle.fsm.specs.declared.Machine.{Machine}
 use Rattle.fsm.specs.declared.Answer.{Answer}
 
@@ -41,16 +36,6 @@ eventNumber RcvdEs = 3
 eventNumber LostEs = 4
 eventNumber DfTimer = 5
 eventNumber Calculated = 6
-
-unfoldable pub eventOf : ℕ → Numbered
-eventOf n =
-    cond (eqb n 0) (Is EsUp)
-    (cond (eqb n 1) (Is EsDown)
-    (cond (eqb n 2) (Is VlanChange)
-    (cond (eqb n 3) (Is RcvdEs)
-    (cond (eqb n 4) (Is LostEs)
-    (cond (eqb n 5) (Is DfTimer)
-    (cond (eqb n 6) (Is Calculated) Nothing))))))
 
 abbrev pub inState : State → State → Bool
 inState a s = eqb (stateNumber a) (stateNumber s)
@@ -91,10 +76,3 @@ driveOf m e now = record { state = nextState (m .state) e; wait = m .wait; since
 
 unfoldable pub tickOf : Machine → ℕ → Machine
 tickOf m now = cond (due m now) (driveOf m DfTimer now) m
-
-unfoldable pub numberedAnswer : Machine → ℕ → Numbered → Answer
-numberedAnswer m now (Is e) = record { number = 0; machine = driveOf m e now }
-numberedAnswer m now Nothing = record { number = eventUnknown; machine = m }
-
-unfoldable pub drivenOf : Machine → ℕ → ℕ → Answer
-drivenOf m n now = numberedAnswer m now (eventOf n)

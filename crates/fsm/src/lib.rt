@@ -1,11 +1,11 @@
 // The DF election finite state machine (RFC 8584, section 2.1): when a router that has come up waits, when it calculates, and when it has elected.
 // A machine goes in and comes back by value. Whatever list of events and clock readings follows its making, `make` promises what becomes of it.
-use refusals::EVENT_UNKNOWN;
+// `fsm_numbers` takes events by their numbers.
 use refusals::WAIT_OUT_OF_RANGE;
 ghost use mathlib.Core.Path.{_≡_};
 ghost use mathlib.Core.List.{List};
 ghost use Prim.Native.Nat.{_+_, _%_, _^_};
-ghost use Rattle.fsm.specs.Machine.{stateNumber, eventNumber, eventOf, nextState, starts, waitedOf, due, madeOf, driveOf, tickOf, drivenOf};
+ghost use Rattle.fsm.specs.Machine.{stateNumber, eventNumber, nextState, starts, waitedOf, due, madeOf, driveOf, tickOf};
 ghost use Rattle.fsm.specs.Runs.{Item, run, Claims};
 
 pub enum State {
@@ -23,12 +23,6 @@ pub enum Event {
     LostEs,
     DfTimer,
     Calculated,
-}
-
-// What a number handed in for an event is: that event, or nothing.
-enum Numbered {
-    Is(Event),
-    Nothing,
 }
 
 // The wait is in seconds; `since` is the clock reading of the ES_UP that left INIT.
@@ -86,22 +80,6 @@ fn event_number(e: Event) -> u8
         Event::LostEs => 4,
         Event::DfTimer => 5,
         Event::Calculated => 6,
-    }
-}
-
-// The event of a number, if it has one.
-fn event_of(n: u8) -> Numbered
-    ensures { λ r. ⌜ r ≡ eventOf n ⌝ }
-{
-    match n {
-        0 => Numbered::Is(Event::EsUp),
-        1 => Numbered::Is(Event::EsDown),
-        2 => Numbered::Is(Event::VlanChange),
-        3 => Numbered::Is(Event::RcvdEs),
-        4 => Numbered::Is(Event::LostEs),
-        5 => Numbered::Is(Event::DfTimer),
-        6 => Numbered::Is(Event::Calculated),
-        _ => Numbered::Nothing,
     }
 }
 
@@ -204,20 +182,4 @@ pub fn tick(m: Machine, now: u32) -> Machine
         return drive(m, Event::DfTimer, now);
     }
     m
-}
-
-// As `drive`, with the event's number: 23 and the machine as it was for a number above 6.
-pub fn drive_number(m: Machine, event: u8, now: u32) -> Answer
-    ensures { λ r. ⌜ r ≡ drivenOf m event now ⌝ }
-{
-    let Numbered::Is(e) = event_of(event) else {
-        return Answer {
-            number: EVENT_UNKNOWN,
-            machine: m,
-        };
-    };
-    Answer {
-        number: 0,
-        machine: drive(m, e, now),
-    }
 }

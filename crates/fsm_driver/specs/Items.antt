@@ -8,7 +8,8 @@ use lib.Dec.{eqb}
 use Rattle.octets.specs.Octets.{octetsOf}
 use Rattle.fsm.specs.declared.Machine.{Machine}
 use Rattle.fsm.specs.declared.Answer.{Answer}
-use Rattle.fsm.specs.Machine.{stateNumber, madeOf, tickOf, drivenOf}
+use Rattle.fsm.specs.Machine.{stateNumber, madeOf, tickOf}
+use Rattle.fsm_numbers.specs.Numbers.{drivenOf}
 
 unfoldable pub itemAnswer : Machine → ℕ → ℕ → ℕ → Answer
 itemAnswer m k e n = cond (eqb k 0) (drivenOf m e n) (cond (eqb k 1) (record { number = 0; machine = tickOf m n }) (madeOf n))

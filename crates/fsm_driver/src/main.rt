@@ -8,7 +8,7 @@ ghost use mathlib.Core.Path.{_≡_};
 ghost use Rattle.fsm_driver.specs.Items.{itemAnswer, itemOctets};
 
 // The machine after an item, and whether another item may follow.
-struct Turn {
+struct ItemTaken {
     machine: Machine,
     more: bool,
 }
@@ -18,7 +18,7 @@ fn item_answer(m: Machine, kind: u8, event: u8, number: u32) -> Answer
     ensures { λ r. ⌜ r ≡ itemAnswer m kind event number ⌝ }
 {
     if kind == 0 {
-        return fsm::drive_number(m, event, number);
+        return fsm_numbers::drive_number(m, event, number);
     }
     if kind == 1 {
         return Answer {
@@ -52,11 +52,11 @@ fn octets_of(a: Answer) -> [u8; 10]
 }
 
 // Reads an item, and writes what becomes of the machine.
-fn take_item(m: Machine) -> Turn {
+fn take_item(m: Machine) -> ItemTaken {
     let mut item = [0u8; 6];
     let n = io::read_full(0, &mut item);
     if n < 6 {
-        return Turn {
+        return ItemTaken {
             machine: m,
             more: false,
         };
@@ -65,7 +65,7 @@ fn take_item(m: Machine) -> Turn {
     let a = item_answer(m, item[0], item[1], number);
     let line = octets_of(a);
     let next = a.machine;
-    Turn {
+    ItemTaken {
         machine: next,
         more: io::write_all(1, &line),
     }

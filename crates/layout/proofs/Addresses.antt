@@ -1,21 +1,17 @@
 -- What the words of an address in a table say of it. Assumes nothing.
-use Prim.Native.Nat.{ℕ, _+_, _*_, _/_, _%_, _^_, _<_}
+use Prim.Native.Nat.{ℕ, _+_, _*_, _%_, _^_, _<_}
 use native.Mathlib.Omega.{arith}
-use native.Mathlib.Nat.{mod-eq-of-lt, mul-add-mod-self-right}
-use mathlib.Core.Path.{_≡_, refl, ap, ap₂, _∙_, sym}
-use mathlib.Core.Bool.{cond}
-use mathlib.Core.List.{List, [], _∷_, _++_}
-use lib.ListN.{length, getD, drop}
-use lib.Dec.{eqb}
+use native.Mathlib.Nat.{mod-eq-of-lt}
+use mathlib.Core.Path.{_≡_, ap, _∙_, sym}
+use mathlib.Core.List.{List, [], _∷_}
+use lib.ListN.{length, getD}
 use Rattle.lists.proofs.Lists.{every-in}
-use Rattle.octets.specs.Octets.{octetsOf}
-use Rattle.octets.proofs.Laws.{length-octets}
 use Rattle.rows.specs.Rows.{rowKey}
 use Rattle.rows.proofs.Compared.{Words, words-part}
 use Rattle.address.specs.Address.{IsAddress, ipv4, ipv6, familyOf, addressWords, addressNumber}
 use Rattle.address.proofs.Laws as address
 use Rattle.address.proofs.Laws.{words-after}
-use Rattle.layout.specs.Table.{Entry, noEntry, AddressRight}
+use Rattle.layout.specs.Table.{noEntry, AddressRight}
 use Rattle.layout.specs.Words.{tableIn, Valid}
 use Rattle.layout.proofs.Words.{address-row, address-word}
 

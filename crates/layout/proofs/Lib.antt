@@ -1,4 +1,2 @@
 pub mod Words
 mod Addresses
-pub mod Stores
-pub mod Lookups

@@ -1,12 +1,11 @@
 -- Laws of the words of a table: reading an entry's words gives the entry back, and a table's words the table; what each word of a table is. Assumes nothing.
 use Prim.Native.Nat.{ℕ, _+_, _*_, _/_, _%_, _≤_, _<_}
 use native.Mathlib.Omega.{arith}
-use native.Mathlib.Numerals.{add-one}
 use mathlib.Core.Path.{_≡_, refl, ap, ap₂, _∙_, sym}
-use mathlib.Core.List.{List, [], _∷_, _++_, append-nil}
+use mathlib.Core.List.{List, [], _∷_, _++_}
 use mathlib.Core.Logic.{⊎-elim}
-use lib.ListN.{length, getD, set, take, drop, length-append, length-map, length-replicate, drop-of-length-le}
-use lib.Seq.{paste, drop-at, drop-drop, getD-take, getD-drop, take-all, take-suc, take-suc-set}
+use lib.ListN.{length, getD, drop, length-append, length-map, length-replicate}
+use lib.Seq.{drop-at, drop-drop, getD-take, getD-drop}
 use Rattle.lists.specs.Lists.{Every}
 use Rattle.lists.proofs.Bools.{bit-less, bit-halves}
 use Rattle.lists.proofs.Lists.{every-at, getD-map-in}
@@ -56,16 +55,6 @@ unfolding entriesIn entryIn Every
 entries-narrow [] ws = tt
 entries-narrow (r ∷ rs) [] = tt
 entries-narrow (r ∷ rs) (w ∷ ws) = (omega arith, entries-narrow rs ws)
-
-pub none-octets : Octets []
-unfolding Every
-none-octets = tt
-
--- ten octets written at the end of 395 words
-pub written-all : (d s : List ℕ) (i : ℕ) → length d ≡ 395 → length s ≡ 10 → 10 ≤ i → i ≤ 10 → paste d 385 s i ≡ take 385 d ++ s
-written-all d s i m n h l =
-    let e : i ≡ 10 = omega arith in
-    rw (e, take-all 10 s (omega arith), drop-of-length-le d {i = 395} (omega arith)) (append-nil (take 385 d ++ s))
 
 -- THE COLUMNS
 -- a word of a row
@@ -209,17 +198,3 @@ module _ (b : List ℕ) (h : Valid b) where
   pub esi-word : (k : ℕ) → getD b (385 + k) 0 ≡ getD (table .esi) k 0
   unfolding tableIn
   esi-word k = sym (getD-drop 385 b k 0)
-
-  pub identifier-next : (e : List ℕ) (i : ℕ) → length e ≡ 10 → i < 10 → take i e ≡ take i (table .esi)
-      → take (i + 1) (set e i (getD b (385 + i) 0 % 256)) ≡ take (i + 1) (table .esi)
-  identifier-next e i n l q =
-      let o : getD (table .esi) i 0 < 256 = every-at (λ (o : ℕ). o < 256) (table .esi) i 0 (omega arith) (h .octets) in
-      let v : getD b (385 + i) 0 % 256 ≡ getD (table .esi) i 0 = omega (arith, esi-word i) in
-      rw (add-one, v)
-      (take-suc-set e i (getD (table .esi) i 0) (omega arith)
-      ∙ ap (λ (s : List ℕ). s ++ (getD (table .esi) i 0 ∷ [])) q
-      ∙ sym (take-suc (table .esi) i 0 (omega (arith, length-esi table (h .sound)))))
-
-  pub identifier-end : (e : List ℕ) (i : ℕ) → length e ≡ 10 → 10 ≤ i → take i e ≡ take i (table .esi) → e ≡ table .esi
-  identifier-end e i n l q =
-      sym (take-all i e (omega arith)) ∙ q ∙ take-all i (table .esi) (omega (arith, length-esi table (h .sound)))

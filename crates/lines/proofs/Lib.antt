@@ -1,3 +1,3 @@
--- Laws on the pieces of a line and on putting them into a buffer, for the crates above; and laws for the steps of the code.
+-- Laws on the pieces of a line and on putting them into a buffer, for the crates above; and a law for the step of the code.
 pub mod Laws
 mod Steps

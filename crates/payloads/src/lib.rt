@@ -67,7 +67,7 @@ pub fn put_rows(ready: &mut [u32], s: &[u8], v6: bool)
     while i < n {
         let a = address_at(s, i * each, v6);
         let row = address::row(a);
-        rows::insert(ready, i, i, &row);
+        gaps::insert(ready, i, i, &row);
         i += 1;
     }
 }

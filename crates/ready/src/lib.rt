@@ -58,7 +58,7 @@ pub fn ready_set(t: &[u32], ready: &[u32]) -> u64
     let mut next = 0;
     while next < rows {
         let address = listed(ready, next);
-        let looked = layout::lookup(t, first, address);
+        let looked = entries::lookup(t, first, address);
         let found = looked.found;
         match found {
             Found::At(at) => {

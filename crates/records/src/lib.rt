@@ -81,7 +81,7 @@ fn later(t: &mut [u32], kind: u8, payload: &[u8], out: &mut [u8], at: usize) -> 
     match judged {
         Judged::Announcement => turns::announce(t, payload, out, at),
         Judged::Withdrawal(v6) => turns::withdraw(t, v6, payload, out, at),
-        Judged::Query(v6) => turns::query(t, v6, payload, out, at),
+        Judged::Query(v6) => queries::query(t, v6, payload, out, at),
         Judged::Bad => turns::refuse(out, at),
     }
 }

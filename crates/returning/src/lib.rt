@@ -27,7 +27,7 @@ fn others(t: &[u32], address: Address) -> u64
     ensures { λ r. ⌜ (r < 2 ^ length (tableIn (now (t .entry)) .entries)) × (entriesAt (tableIn (now (t .entry)) .entries) (places r) ≡ returning.others (addressRow address) (tableIn (now (t .entry)) .entries)) ⌝ }
 {
     let all = places::below(layout::count(t));
-    let found = layout::find(t, address);
+    let found = entries::find(t, address);
     let Found::At(at) = found else {
         return all;
     };

@@ -11,7 +11,7 @@ use Rattle.lists.proofs.Lists.{every-take, every-drop, every-in}
 use Rattle.keyed.specs.Keyed.{spliced, dropAt}
 use Rattle.keyed.proofs.Keyed as keyed
 use Rattle.rows.specs.Rows.{rowsIn, flat, column, inserted, removed}
-use Rattle.rows.proofs.Moved.{words-split}
+use Rattle.rows.proofs.Rows.{words-split}
 
 -- every row has k words
 abbrev pub Wide : ℕ → List (List ℕ) → Type 0

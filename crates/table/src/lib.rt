@@ -48,7 +48,7 @@ pub fn fresh(esi: &[u8]) -> Made
             table: words,
         };
     }
-    layout::put_identifier(&mut words, esi);
+    owner::put_identifier(&mut words, esi);
     Made {
         number: 0,
         table: words,
@@ -62,17 +62,17 @@ fn admit(t: &mut [u32], address: Address, e: Election) -> u8
     ensures narrow { λ _. ⌜ e .preference < 65536 ⌝ }
 {
     let word = layout::attributes(e);
-    let found = layout::find(t, address);
+    let found = entries::find(t, address);
     match found {
         Found::At(at) => {
-            layout::replace(t, at, word);
+            entries::replace(t, at, word);
             0
         }
         Found::Missing(at) => {
             if MAX_ROUTES <= layout::count(t) {
                 return TABLE_FULL;
             }
-            layout::grow(t, at, address, word);
+            entries::grow(t, at, address, word);
             0
         }
     }
@@ -96,7 +96,7 @@ pub fn announce(t: &mut [u32], route: &[u8], communities: &[u8]) -> Verdict
             offset: p,
         };
     };
-    if !layout::same_identifier(t, &route[10..20]) {
+    if !owner::same_identifier(t, &route[10..20]) {
         return Verdict {
             number: OTHER_SEGMENT,
             offset: 0,
@@ -126,10 +126,10 @@ pub fn withdraw(t: &mut [u32], address: Address) -> u8
     if address::is_zero(address) {
         return ADDRESS_ZERO;
     }
-    let found = layout::find(t, address);
+    let found = entries::find(t, address);
     let Found::At(at) = found else {
         return NOT_PRESENT;
     };
-    layout::shrink(t, at);
+    entries::shrink(t, at);
     0
 }

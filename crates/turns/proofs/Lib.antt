@@ -1,3 +1,2 @@
--- Laws of turns, and of the ready list of a query.
+-- Laws of turns.
 pub mod Laws
-mod Ready

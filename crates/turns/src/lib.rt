@@ -1,6 +1,5 @@
 // The turn of one bench record of each kind (document 01, "The bench program"): it is carried out upon a lent table, and its line is put into a lent
-// buffer by `answer_lines`.
-use address::WIDTH;
+// buffer by `answer_lines`. The turn of a query is carried out in `queries`.
 ghost use mathlib.Core.Path.{_≡_};
 ghost use Prim.Native.Nat.{ℕ, _+_, _≤_};
 ghost use mathlib.Core.List.{List};
@@ -8,7 +7,7 @@ ghost use lib.ListN.{length, getD};
 ghost use Rattle.layout.specs.Words.{tableIn, Valid};
 ghost use Rattle.route.specs.Route.{totalOf};
 ghost use Rattle.payloads.specs.Payloads.{sizeOf};
-ghost use Rattle.turns.specs.Turns.{badTurn, textTurn, announceTurn, withdrawTurn, queryTurn};
+ghost use Rattle.turns.specs.Turns.{badTurn, textTurn, announceTurn, withdrawTurn};
 ghost use Rattle.turns.specs.Steps.{Stepped};
 
 // Where a run stands: no record was taken, records are carried out, nothing more is looked at.
@@ -23,9 +22,6 @@ pub struct Step {
     pub phase: Phase,
     pub at: usize,
 }
-
-// The words of as many rows as a ready list may have.
-const READY_WORDS: usize = 320;
 
 // A bad record: its line is put, and the run ends. The table stays as it is, whatever its words are.
 pub fn refuse(out: &mut [u8], at: usize) -> Step
@@ -100,24 +96,6 @@ pub fn withdraw(t: &mut [u32], v6: bool, payload: &[u8], out: &mut [u8], at: usi
     let address = payloads::address_at(payload, 0, v6);
     let number = segment::withdraw(t, address);
     let end = answer_lines::put_line(out, at, b'w', number);
-    Step {
-        phase: Phase::Running,
-        at: end,
-    }
-}
-
-// A query: the tag, then the ready addresses.
-pub fn query(t: &[u32], v6: bool, payload: &[u8], out: &mut [u8], at: usize) -> Step
-    requires { ⌜ (at + 48 ≤ length (now out)) × (4 ≤ length (now payload)) × (length (now payload) ≤ 255) × Valid (now t) ⌝ }
-    ensures { λ r. ⌜ Stepped (now (out .entry)) at (queryTurn (tableIn (now (t .entry))) v6 (now (payload .entry))) r (now (t .entry)) (now (out .exit)) ⌝ }
-{
-    let tag = octets::u32_of(payload[0], payload[1], payload[2], payload[3]);
-    let rest = &payload[4..];
-    let mut ready = [0u32; READY_WORDS];
-    payloads::put_rows(&mut ready, rest, v6);
-    let n = rest.len() / payloads::size(v6) * WIDTH;
-    let answer = segment::elect(t, tag, &ready[..n]);
-    let end = answer_lines::put_answer(out, at, answer);
     Step {
         phase: Phase::Running,
         at: end,

@@ -1,5 +1,4 @@
 -- `originator` meets its contract: the address of the family that the route names. Assumes nothing.
-use borrow.Author.Needs.{needs}
 use native.Mathlib.Omega.{arith}
 use mathlib.Core.Path.{_∙_}
 use Rattle.route.proofs.Laws.{total-four, total-six, originator-four, originator-six}

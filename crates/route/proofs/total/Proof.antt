@@ -1,5 +1,4 @@
 -- `total` meets its contract. Assumes nothing.
-use mathlib.Core.Path.{sym}
 use borrow.Author.Tests.{eq-eqb, ne-eqb}
 use Rattle.route.specs.Route.{totalOf}
 use Rattle.route.proofs.total.Statement.{statement}

@@ -1,0 +1,73 @@
+// The entries of a table in its words: an address looked up, other attributes for an entry, an entry more, an entry less.
+use address::Address;
+use layout::ATTRIBUTES;
+use layout::COUNT;
+use layout::MAX_ROUTES;
+use rows::Found;
+use rows::Lookup;
+ghost use mathlib.Core.Path.{_≡_};
+ghost use mathlib.Core.List.{[], _∷_, map};
+ghost use Prim.Native.Nat.{_≤_, _<_};
+ghost use lib.ListN.{length, getD, set};
+ghost use Rattle.keyed.specs.Keyed.{spliced, dropAt};
+ghost use Rattle.rows.specs.Rows.{foundIn, looksFor};
+ghost use Rattle.address.specs.Address.{addressRow, addressKey};
+ghost use Rattle.layout.specs.Table.{entryKey, noEntry, tableOf};
+ghost use Rattle.layout.specs.Words.{entryIn, wordsOf, tableIn, Valid};
+
+// Looks an address up, the entry at the place `first` before all others (the one in the middle where `first` is no place in use): where it stands, and how
+// many entries were compared with it, seven at most.
+// Every lookup in a table goes through here.
+pub fn lookup(t: &[u32], first: usize, address: Address) -> Lookup
+    requires { ⌜ Valid (now t) ⌝ }
+    ensures found { λ r. ⌜ r .found ≡ foundIn entryKey (addressKey (addressRow address)) (tableIn (now (t .entry)) .entries) ⌝ }
+    ensures looks { λ r. ⌜ r .looks ≡ length (looksFor first (addressKey (addressRow address)) (map entryKey (tableIn (now (t .entry)) .entries))) ⌝ }
+    ensures few { λ r. ⌜ r .looks ≤ 7 ⌝ }
+{
+    let n = layout::count(t);
+    let row = address::row(address);
+    rows::search(t, n, first, &row)
+}
+
+// Where an address stands, or would stand. No place in use is proposed, so the entry in the middle is looked at first.
+pub fn find(t: &[u32], address: Address) -> Found
+    requires { ⌜ Valid (now t) ⌝ }
+    ensures { λ r. ⌜ r ≡ foundIn entryKey (addressKey (addressRow address)) (tableIn (now (t .entry)) .entries) ⌝ }
+{
+    let r = lookup(t, MAX_ROUTES, address);
+    r.found
+}
+
+// Other attributes for the entry at a place.
+pub fn replace(t: &mut [u32], at: usize, word: u32)
+    requires { ⌜ Valid (now t) × (at < length (tableIn (now t) .entries)) ⌝ }
+    ensures { λ _. ⌜ now (t .exit) ≡ wordsOf (tableOf (tableIn (now (t .entry)) .esi) (set (tableIn (now (t .entry)) .entries) at (entryIn (getD (tableIn (now (t .entry)) .entries) at noEntry .address) (word ∷ [])))) ⌝ }
+{
+    t[ATTRIBUTES + at] = word;
+}
+
+// One entry more, before the one at a place.
+pub fn grow(t: &mut [u32], at: usize, address: Address, word: u32)
+    requires { ⌜ Valid (now t) × (at ≤ length (tableIn (now t) .entries)) × (length (tableIn (now t) .entries) < 64) ⌝ }
+    ensures { λ _. ⌜ now (t .exit) ≡ wordsOf (tableOf (tableIn (now (t .entry)) .esi) (spliced (tableIn (now (t .entry)) .entries) at (entryIn (addressRow address) (word ∷ [])))) ⌝ }
+{
+    let n = layout::count(t);
+    let row = address::row(address);
+    let words = [word];
+    gaps::insert(t, n, at, &row);
+    gaps::insert(&mut t[ATTRIBUTES..], n, at, &words);
+    let more = n + 1;
+    t[COUNT] = more as u32;
+}
+
+// One entry less: the one at a place goes.
+pub fn shrink(t: &mut [u32], at: usize)
+    requires { ⌜ Valid (now t) × (at < length (tableIn (now t) .entries)) ⌝ }
+    ensures { λ _. ⌜ now (t .exit) ≡ wordsOf (tableOf (tableIn (now (t .entry)) .esi) (dropAt (tableIn (now (t .entry)) .entries) at)) ⌝ }
+{
+    let n = layout::count(t);
+    gaps::remove(t, n, address::WIDTH, at);
+    gaps::remove(&mut t[ATTRIBUTES..], n, 1, at);
+    let less = n - 1;
+    t[COUNT] = less as u32;
+}
