@@ -288,9 +288,8 @@ impl Table {
         set
     }
 
-    /// The first place of the set, which is not empty, with the greatest weight.
-    #[inline(always)]
-    fn heaviest(&self, set: u64, full: bool, digest: u32) -> usize {
+    /// The first place of the set, which is not empty, with the greatest weight. Each caller has a copy of its own, which is then inlined.
+    fn heaviest<Caller>(&self, set: u64, full: bool, digest: u32) -> usize {
         let fours = &self.v4.numbers[..self.v4.count.min(MAX_ROUTES)];
         let sixes = &self.v6.numbers[..self.v6.count.min(MAX_ROUTES)];
         let of_four = |number: u32| octets::weight(number, digest);
@@ -315,7 +314,7 @@ impl Table {
 
     /// The election for a tag that is not reserved. The set of those that are ready is asked for only with AC-DF in use.
     #[inline(always)]
-    fn elected(&self, tag: u32, ready_set: impl FnOnce() -> u64) -> Answer {
+    fn elected<R: FnOnce() -> u64>(&self, tag: u32, ready_set: R) -> Answer {
         let attributes = self.live();
         let (algorithm, ac_df) = in_use(attributes);
         let set = if ac_df {
@@ -331,7 +330,7 @@ impl Table {
         let place = match algorithm {
             0 if full => (tag % n) as usize,
             0 => nth(set, tag % n),
-            1 => self.heaviest(set, full, octets::digest(tag, &self.esi)),
+            1 => self.heaviest::<R>(set, full, octets::digest(tag, &self.esi)),
             2 => best_narrow(attributes, set, full, higher),
             _ => best_narrow(attributes, set, full, lower),
         };
