@@ -1,7 +1,8 @@
 #!/usr/bin/env bash
 # Compares the calls of the library, as the crate `exports` hands them over, with the reference, call by call: library.sh
 # So the calls that no bench record makes are compared too: the returning router, ready lists over 64, with both families, with rows that are no address and
-# words that are no row, routes and lists of any length. The baselines of benchmarks/ are held against the reference in the same way.
+# words that are no row, routes and lists of any length; the Ethernet A-D routes, with the whole state after each call, and the election over both tables.
+# The baselines of benchmarks/ are held against the reference in the same way.
 set -euo pipefail
 cd "$(dirname "$0")/.."
 rt staticlib exports > /dev/null

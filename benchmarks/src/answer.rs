@@ -1,10 +1,12 @@
 //! The calls that every side of a comparison has, and their answers. Document 01, "The table", "The election", "The returning router"; document 02,
-//! M-103 for the place and M-105 for addresses of both families. The structs that are answered are laid out as in C, so that the proved calls can
-//! answer them.
+//! M-102 for the Ethernet A-D routes, M-103 for the place and M-105 for addresses of both families. The structs that are answered are laid out as in
+//! C, so that the proved calls can answer them.
 
 /// The words of a row of a ready list: the family, 4 or 6, then the words of an address. A row of another family is a stranger; words after the last
 /// whole row are no row.
 pub const ROW_WORDS: usize = 5;
+/// The words of a row of the table of Ethernet A-D routes: the kind, 1 per segment or 2 per instance; the tag, 0 per segment; the row of an address.
+pub const CIRCUIT_WORDS: usize = 7;
 
 #[derive(Clone, Copy, Debug, PartialEq, Eq)]
 pub enum Family {
@@ -41,6 +43,33 @@ impl Address {
         match self.family {
             Family::V4 => [4, a, b, c, d],
             Family::V6 => [6, a, b, c, d],
+        }
+    }
+}
+
+/// An Ethernet A-D route as it is handed in. A per-segment route is told by its address, a per-instance one by its address and tag; the tag handed in
+/// with a per-segment route does not count.
+#[derive(Clone, Copy, Debug, PartialEq, Eq)]
+pub struct Circuit {
+    pub per_instance: bool,
+    pub tag: u32,
+    pub address: Address,
+}
+
+impl Circuit {
+    pub fn per_segment(address: Address) -> Circuit {
+        Circuit {
+            per_instance: false,
+            tag: 0,
+            address,
+        }
+    }
+
+    pub fn per_instance(tag: u32, address: Address) -> Circuit {
+        Circuit {
+            per_instance: true,
+            tag,
+            address,
         }
     }
 }
@@ -99,8 +128,23 @@ impl Sent {
     }
 }
 
+/// The calls of a table of Ethernet A-D routes. A refused call leaves the table as it was.
+pub trait Circuits {
+    fn empty() -> Self;
+
+    /// Makes this the empty table.
+    fn fresh(&mut self);
+
+    fn announce(&mut self, route: Circuit) -> u8;
+
+    fn withdraw(&mut self, route: Circuit) -> u8;
+}
+
 /// The calls of one segment. A refused call leaves the table as it was.
 pub trait Segment {
+    /// The table of Ethernet A-D routes beside it.
+    type Circuits: Circuits;
+
     /// The empty table of the all-zero identifier.
     fn empty() -> Self;
 
@@ -113,6 +157,9 @@ pub trait Segment {
 
     /// The ready list is a run of rows of words.
     fn elect(&self, tag: u32, ready: &[u32]) -> Answer;
+
+    /// The election over both tables.
+    fn elect_by_circuits(&self, circuits: &Self::Circuits, tag: u32) -> Answer;
 
     fn returning(&self, address: Address, algorithm: u8, preference: u16, dp: bool) -> Sent;
 

@@ -3,7 +3,11 @@
 //! a loop over them takes several routes at once. Unused addresses are all ones, so that halvings may go past the end. A lookup halves its range without
 //! a branch, as often as the number of routes asks for, and compares at most seven entries of 64 (document 02, M-104). An address of the ready list is
 //! first looked for behind the one of its family before it, which is one of the seven. Shifts are block moves. Loops over the routes are without
-//! branches, for the compiler to vectorize. Nothing that an election derives is kept between calls.
+//! branches, for the compiler to vectorize. Nothing that an election derives is kept between calls. The Ethernet A-D routes are in `circuits`.
+
+mod circuits;
+
+pub use circuits::Circuits;
 
 use crate::answer::{Address, Answer, Segment, Sent, Verdict, ROW_WORDS};
 use crate::octets::{self, Election, Number, MAX_ROUTES, TOO_MANY_READY};
@@ -284,8 +288,8 @@ impl Table {
         set
     }
 
-    /// The first place of the set, which is not empty, with the greatest weight.
-    fn heaviest(&self, set: u64, full: bool, digest: u32) -> usize {
+    /// The first place of the set, which is not empty, with the greatest weight. Each caller has a copy of its own, which is then inlined.
+    fn heaviest<Caller>(&self, set: u64, full: bool, digest: u32) -> usize {
         let fours = &self.v4.numbers[..self.v4.count.min(MAX_ROUTES)];
         let sixes = &self.v6.numbers[..self.v6.count.min(MAX_ROUTES)];
         let of_four = |number: u32| octets::weight(number, digest);
@@ -306,6 +310,39 @@ impl Table {
             }
         }
         fours.len() + place
+    }
+
+    /// The election for a tag that is not reserved. The set of those that are ready is asked for only with AC-DF in use.
+    #[inline(always)]
+    fn elected<R: FnOnce() -> u64>(&self, tag: u32, ready_set: R) -> Answer {
+        let attributes = self.live();
+        let (algorithm, ac_df) = in_use(attributes);
+        let set = if ac_df {
+            ready_set()
+        } else {
+            all_places(attributes.len())
+        };
+        if set == 0 {
+            return Answer::refused(12);
+        }
+        let n = set.count_ones();
+        let full = n as usize == attributes.len();
+        let place = match algorithm {
+            0 if full => (tag % n) as usize,
+            0 => nth(set, tag % n),
+            1 => self.heaviest::<R>(set, full, octets::digest(tag, &self.esi)),
+            2 => best_narrow(attributes, set, full, higher),
+            _ => best_narrow(attributes, set, full, lower),
+        };
+        let (family, address) = self.number_at(place).answered();
+        Answer {
+            number: 0,
+            family,
+            address,
+            algorithm,
+            n,
+            candidates: set,
+        }
     }
 
     /// The address at a place among all routes.
@@ -400,6 +437,8 @@ fn all_places(n: usize) -> u64 {
 }
 
 impl Segment for Table {
+    type Circuits = Circuits;
+
     fn empty() -> Table {
         Table {
             esi: [0; 10],
@@ -466,34 +505,15 @@ impl Segment for Table {
         if ready.len() >= TOO_MANY_READY {
             return Answer::refused(11);
         }
-        let attributes = self.live();
-        let (algorithm, ac_df) = in_use(attributes);
-        let set = if ac_df {
-            self.ready_set(ready)
-        } else {
-            all_places(attributes.len())
-        };
-        if set == 0 {
-            return Answer::refused(12);
+        self.elected(tag, || self.ready_set(ready))
+    }
+
+    #[inline]
+    fn elect_by_circuits(&self, circuits: &Circuits, tag: u32) -> Answer {
+        if tag == 0 || tag == u32::MAX {
+            return Answer::refused(10);
         }
-        let n = set.count_ones();
-        let full = n as usize == attributes.len();
-        let place = match algorithm {
-            0 if full => (tag % n) as usize,
-            0 => nth(set, tag % n),
-            1 => self.heaviest(set, full, octets::digest(tag, &self.esi)),
-            2 => best_narrow(attributes, set, full, higher),
-            _ => best_narrow(attributes, set, full, lower),
-        };
-        let (family, address) = self.number_at(place).answered();
-        Answer {
-            number: 0,
-            family,
-            address,
-            algorithm,
-            n,
-            candidates: set,
-        }
+        self.elected(tag, || circuits.ready_set(self, tag))
     }
 
     #[inline]

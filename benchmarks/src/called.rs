@@ -5,6 +5,8 @@ use crate::answer::{Address, Answer, Segment, Sent, Verdict};
 pub struct Called<T>(T);
 
 impl<T: Segment> Segment for Called<T> {
+    type Circuits = T::Circuits;
+
     fn empty() -> Self {
         Called(T::empty())
     }
@@ -27,6 +29,11 @@ impl<T: Segment> Segment for Called<T> {
     #[inline(never)]
     fn elect(&self, tag: u32, ready: &[u32]) -> Answer {
         self.0.elect(tag, ready)
+    }
+
+    #[inline(never)]
+    fn elect_by_circuits(&self, circuits: &T::Circuits, tag: u32) -> Answer {
+        self.0.elect_by_circuits(circuits, tag)
     }
 
     #[inline(never)]

@@ -1,10 +1,11 @@
 //! What both baselines read from octets and words in the same way: addresses, the route's checks, the list of communities, the digest and the weight.
 //! The CRC goes octet by octet through a static table of 256 entries, in both baselines.
 
-use crate::answer::{Address, Family, Verdict, ROW_WORDS};
+use crate::answer::{Address, Circuit, Family, Verdict, CIRCUIT_WORDS, ROW_WORDS};
 
 pub const MAX_ROUTES: usize = 64;
 pub const MAX_READY: usize = 64;
+pub const MAX_CIRCUITS: usize = 256;
 /// From so many words on a ready list has more rows than it may.
 pub const TOO_MANY_READY: usize = (MAX_READY + 1) * ROW_WORDS;
 
@@ -69,6 +70,29 @@ pub struct Election {
     pub ac_df: bool,
     pub dp: bool,
     pub preference: u16,
+}
+
+/// The tag by which a baseline keeps an Ethernet A-D route, 0 for a per-segment one, and its address; or the first check that refuses it.
+#[inline]
+pub fn check_circuit(route: Circuit) -> Result<(u32, Number), u8> {
+    let number = Number::of(route.address);
+    if number.is_zero() {
+        return Err(6);
+    }
+    if !route.per_instance {
+        return Ok((0, number));
+    }
+    if route.tag == 0 || route.tag == u32::MAX {
+        return Err(10);
+    }
+    Ok((route.tag, number))
+}
+
+/// The row of an Ethernet A-D route that is kept by a tag, 0 for a per-segment one, and an address.
+pub fn circuit_row(tag: u32, number: Number) -> [u32; CIRCUIT_WORDS] {
+    let kind = if tag == 0 { 1 } else { 2 };
+    let (family, [a, b, c, d]) = number.answered();
+    [kind, tag, family.into(), a, b, c, d]
 }
 
 pub fn is_reserved(esi: &[u8]) -> bool {

@@ -1,12 +1,20 @@
 //! The proved calls, as the crate `exports` hands them to C: a slice goes over as its start and its length.
 
-use crate::answer::{Address, Answer, Family, Segment, Sent, Verdict};
+use crate::answer::{
+    self, Address, Answer, Circuit, Family, Segment, Sent, Verdict, CIRCUIT_WORDS,
+};
 
 /// 64 rows of five words, the family and the address; 64 words of attributes; the count; the ten octets of the identifier.
 const WORDS: usize = 395;
 
 /// The words of a table. Only the calls below write them, so they are always those of a table that the calls made: their premise (`Valid`).
 pub struct Table([u32; WORDS]);
+
+/// 256 rows of seven words, the kind, the tag, the family and the address; then the number of routes.
+pub const CIRCUITS_WORDS: usize = 256 * CIRCUIT_WORDS + 1;
+
+/// The words of a table of Ethernet A-D routes. As above, only the calls below write them.
+pub struct Circuits([u32; CIRCUITS_WORDS]);
 
 extern "C" {
     fn segment_fresh(t: *mut u32, esi: *const u8, esi_length: usize) -> u8;
@@ -47,11 +55,43 @@ extern "C" {
         dp: bool,
     ) -> Sent;
     fn segment_digest(tag: u32, esi: *const u8) -> u32;
+    fn circuits_fresh(c: *mut u32);
+    fn circuits_announce(
+        c: *mut u32,
+        c_length: usize,
+        per_instance: bool,
+        tag: u32,
+        v6: bool,
+        w0: u32,
+        w1: u32,
+        w2: u32,
+        w3: u32,
+    ) -> u8;
+    fn circuits_withdraw(
+        c: *mut u32,
+        c_length: usize,
+        per_instance: bool,
+        tag: u32,
+        v6: bool,
+        w0: u32,
+        w1: u32,
+        w2: u32,
+        w3: u32,
+    ) -> u8;
+    fn segment_elect_by_circuits(
+        t: *const u32,
+        t_length: usize,
+        c: *const u32,
+        c_length: usize,
+        tag: u32,
+    ) -> Answer;
 }
 
 // SAFETY, of every call: what is lent is live for the call and has the length that goes over with it, the words are lent for writing where they are
 // written, and they are `Valid`.
 impl Segment for Table {
+    type Circuits = Circuits;
+
     fn empty() -> Table {
         let mut table = Table([0; WORDS]);
         table.fresh(&[]);
@@ -90,6 +130,12 @@ impl Segment for Table {
     }
 
     #[inline]
+    fn elect_by_circuits(&self, circuits: &Circuits, tag: u32) -> Answer {
+        let (t, c) = (self.0.as_ptr(), circuits.0.as_ptr());
+        unsafe { segment_elect_by_circuits(t, WORDS, c, CIRCUITS_WORDS, tag) }
+    }
+
+    #[inline]
     fn returning(&self, address: Address, algorithm: u8, preference: u16, dp: bool) -> Sent {
         let v6 = address.family == Family::V6;
         let [w0, w1, w2, w3] = address.words;
@@ -112,5 +158,65 @@ impl Segment for Table {
     #[inline]
     fn digest(tag: u32, esi: &[u8; 10]) -> u32 {
         unsafe { segment_digest(tag, esi.as_ptr()) }
+    }
+}
+
+impl Circuits {
+    /// All its words.
+    pub fn words(&self) -> &[u32; CIRCUITS_WORDS] {
+        &self.0
+    }
+}
+
+// SAFETY, of every call: as above.
+impl answer::Circuits for Circuits {
+    /// The words are no table before the call that makes them one, and none of them is zero: one that the call leaves as it was will show.
+    fn empty() -> Circuits {
+        let mut circuits = Circuits([u32::MAX; CIRCUITS_WORDS]);
+        circuits.fresh();
+        circuits
+    }
+
+    #[inline]
+    fn fresh(&mut self) {
+        unsafe { circuits_fresh(self.0.as_mut_ptr()) }
+    }
+
+    #[inline]
+    fn announce(&mut self, route: Circuit) -> u8 {
+        let v6 = route.address.family == Family::V6;
+        let [w0, w1, w2, w3] = route.address.words;
+        unsafe {
+            circuits_announce(
+                self.0.as_mut_ptr(),
+                CIRCUITS_WORDS,
+                route.per_instance,
+                route.tag,
+                v6,
+                w0,
+                w1,
+                w2,
+                w3,
+            )
+        }
+    }
+
+    #[inline]
+    fn withdraw(&mut self, route: Circuit) -> u8 {
+        let v6 = route.address.family == Family::V6;
+        let [w0, w1, w2, w3] = route.address.words;
+        unsafe {
+            circuits_withdraw(
+                self.0.as_mut_ptr(),
+                CIRCUITS_WORDS,
+                route.per_instance,
+                route.tag,
+                v6,
+                w0,
+                w1,
+                w2,
+                w3,
+            )
+        }
     }
 }

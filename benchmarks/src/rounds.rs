@@ -1,7 +1,7 @@
 //! The rounds of calls that are counted, timed and compared, over any side. What a round is handed goes through `black_box`, and every answer goes to
 //! a hearer: one keeps them all, for the comparison of the sides; the other only sees that the compiler leaves none out.
 
-use crate::answer::{Address, Segment};
+use crate::answer::{Address, Circuit, Circuits, Segment};
 use crate::workload::{self, Families, Run, ESI};
 use std::fmt::Debug;
 use std::hint::black_box;
@@ -23,6 +23,12 @@ pub enum Work {
     },
     /// A round: the election for the next tag, from 1 on. The ready list is rows of words.
     Elect { runs: Vec<Run>, ready: Vec<u32> },
+    /// A round: the election over both tables for the next of the tags.
+    ElectByCircuits {
+        runs: Vec<Run>,
+        circuits: Vec<Circuit>,
+        tags: Vec<u32>,
+    },
     /// A round: what the router of the next address, from 1 on, sends when it comes back with a preference of 40,000 and DP set. In a mixed table they
     /// are of either family in turn.
     Returning {
@@ -114,6 +120,21 @@ pub fn rounds<T: Segment>(work: &Work, rounds: u32, hearer: &mut impl Hearer) {
             let table: T = loaded(runs);
             for tag in 1..=rounds {
                 hearer.hear(table.elect(black_box(tag), black_box(ready)));
+            }
+        }
+        Work::ElectByCircuits {
+            runs,
+            circuits,
+            tags,
+        } => {
+            let table: T = loaded(runs);
+            let mut beside = T::Circuits::empty();
+            for route in circuits {
+                beside.announce(*route);
+            }
+            for tag in tags.iter().cycle().take(rounds as usize) {
+                let (beside, tag) = (black_box(&beside), *black_box(tag));
+                hearer.hear(table.elect_by_circuits(beside, tag));
             }
         }
         Work::Returning {

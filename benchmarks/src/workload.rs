@@ -1,7 +1,7 @@
 //! Routes, communities and ready lists, the same in every run. IPv4 addresses are 10.x.y.z and IPv6 ones 2001:db8::x:y, scattered in the low 24 bits and
 //! handed over in no order.
 
-use crate::answer::{Address, Family};
+use crate::answer::{Address, Circuit, Family};
 use crate::random::Random;
 
 pub const ESI: [u8; 10] = [0x00, 0x11, 0x22, 0x33, 0x44, 0x55, 0x66, 0x77, 0x88, 0x99];
@@ -102,4 +102,15 @@ pub fn runs(
         address: *address,
     };
     addresses.iter().map(run).collect()
+}
+
+/// The Ethernet A-D routes of routers that are ready for every one of some tags.
+pub fn circuits(addresses: &[Address], tags: &[u32]) -> Vec<Circuit> {
+    let of_tag = |tag: &u32| {
+        let tag = *tag;
+        let routers = addresses.iter();
+        routers.map(move |address| Circuit::per_instance(tag, *address))
+    };
+    let segments = addresses.iter().copied().map(Circuit::per_segment);
+    segments.chain(tags.iter().flat_map(of_tag)).collect()
 }

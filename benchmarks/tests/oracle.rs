@@ -1,12 +1,16 @@
-//! Every side against the reference of tests/: the same random calls, the same answers, call by call.
+//! Every side against the reference of tests/: the same random calls, the same answers, call by call. What the Ethernet A-D routes add is in
+//! `oracle/circuits.rs`.
+
+#[path = "oracle/circuits.rs"]
+mod circuits;
 
 use benchmarks::answer::{Address, Answer, Family, Segment, Sent, Verdict};
 use benchmarks::random::Random;
 use benchmarks::{array, list, proved, records, workload};
 use reference::address;
-use reference::election;
+use reference::election::{self, Election};
 use reference::hrw::digest;
-use reference::refusal::answer_number;
+use reference::refusal::{answer_number, Refusal};
 use reference::returning::{advertise, Advertised};
 use reference::route;
 use reference::table::Table;
@@ -33,9 +37,14 @@ fn words(address: address::Address) -> [u32; 4] {
     [0, 4, 8, 12].map(|at| u32::from_be_bytes(octets[at..at + 4].try_into().expect("four octets")))
 }
 
-/// The reference's election as the whole answer.
+/// The reference's election.
 fn elect(table: &Table, tag: u32, ready: &[u32]) -> Answer {
-    match election::elect_rows(table, tag, ready) {
+    whole(election::elect_rows(table, tag, ready))
+}
+
+/// What the reference elects as the whole answer.
+fn whole(election: Result<Election, Refusal>) -> Answer {
+    match election {
         Ok(elected) => Answer {
             number: 0,
             family: elected.address.family(),

@@ -22,6 +22,11 @@ pub struct Election {
     pub candidates: u64,
 }
 
+/// The tags that no election is for.
+pub fn is_reserved(tag: u32) -> bool {
+    tag == 0 || tag == u32::MAX
+}
+
 /// Elects for a tag. Reserved tag, 10; ready list over 64, 11; no eligible router, 12.
 pub fn elect(table: &Table, tag: u32, ready: &[Address]) -> Result<Election, Refusal> {
     elect_listed(table, tag, ready.len(), ready)
@@ -48,7 +53,7 @@ fn elect_listed(
     listed: usize,
     ready: &[Address],
 ) -> Result<Election, Refusal> {
-    if tag == 0 || tag == u32::MAX {
+    if is_reserved(tag) {
         return Err(Refusal::ReservedTag);
     }
     if listed > MAX_READY {

@@ -5,7 +5,7 @@
 //! and prefers the plainest form of each rule to a quick one: the table is a sorted `Vec`, the
 //! CRC goes bit by bit, the weight is computed over numbers that cannot run over.
 //!
-//! One module for each section of document 01, and one for addresses:
+//! One module for each section of document 01, one for addresses and one for Ethernet A-D routes:
 //!
 //! - `refusal`: the refusal numbers
 //! - `address`: addresses of both families, and their order
@@ -15,6 +15,7 @@
 //! - `table`: the routes of one segment
 //! - `hrw`: CRC-32, digest and weight
 //! - `election`: the election for one Ethernet Tag
+//! - `circuits`: the Ethernet A-D routes, and the election over both tables
 //! - `returning`: the preference of a returning router
 //! - `bench`: the bench program
 //! - `encode`: text lines to bench records, for a person at the bench
@@ -23,6 +24,7 @@
 
 pub mod address;
 pub mod bench;
+pub mod circuits;
 pub mod community;
 pub mod election;
 pub mod encode;

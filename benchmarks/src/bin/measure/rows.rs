@@ -117,6 +117,7 @@ pub fn all() -> Vec<Row> {
             let table = Table { families, routes };
             announcements(&mut rows, table);
             elections(&mut rows, table);
+            elections_by_circuits(&mut rows, table);
             returning(&mut rows, table);
         }
     }
@@ -211,6 +212,29 @@ fn elections(rows: &mut Vec<Row>, table: Table) {
         push("", false, &rising);
         push(", AC-DF, rising", true, &rising);
         push(", AC-DF, scattered", true, &scattered);
+    }
+}
+
+/// Elections over both tables. Every router is ready for each of some tags, which have their turns: so many that each router has its turn under
+/// algorithm 0 or, for 64 routers, as many as 256 Ethernet A-D routes have room for.
+fn elections_by_circuits(rows: &mut Vec<Row>, table: Table) {
+    let tags: Vec<u32> = match table.routes {
+        64 => vec![138, 159, 181],
+        8 => (101..=108).collect(),
+        _ => (101..=106).collect(),
+    };
+    for algorithm in 0..4 {
+        let mut random = Random(3);
+        let addresses = table.addresses(&mut random);
+        let mut circuits = workload::circuits(&addresses, &tags);
+        random.shuffle(&mut circuits);
+        let work = Work::ElectByCircuits {
+            runs: workload::runs(&ESI, &addresses, algorithm, true, &mut Random(5)),
+            circuits,
+            tags: tags.clone(),
+        };
+        let name = format!("elect over both tables under {algorithm}");
+        rows.push(row(&name, Some(table), every_call(table.families), work));
     }
 }
 

@@ -4,6 +4,7 @@
 
 mod address;
 mod bench;
+mod circuits;
 mod common;
 mod community;
 mod election;
