@@ -11,7 +11,6 @@ use lib.Count.{ones}
 use lib.Pow.{pow-mono}
 use borrow.Author.Tests.{lt-ltb, le-ltb, eq-eqb, ne-eqb, ltb-true, eqb-true, eqb-false}
 use Rattle.lists.proofs.Lists.{empty, at-mem}
-use Rattle.lists.proofs.Numbers.{whether}
 use Rattle.address.specs.Address.{familyOf, addressWords}
 use Rattle.keyed.specs.Keyed.{Rising}
 use Rattle.layout.specs.Table.{Entry, entryKey, noEntry, Table, WellFormed}
@@ -30,7 +29,7 @@ use Rattle.winner.specs.Winner.{better, elected, entriesAt}
 use Rattle.winner.proofs.Orders.{order-better, better-any}
 use Rattle.winner.proofs.Laws.{places-rising}
 use Rattle.election.specs.Election.{refusedAnswer, candidatesOf, namedAnswer, answerOf, electOf, NoneNamed, Forwarder}
-use Rattle.election.specs.Steps.{digestUnder, answerAmong}
+use Rattle.election.specs.Steps.{digestUnder, ElectedAt}
 use Rattle.election.specs.declared.Answer.{Answer}
 
 ones-none : 0 ≡ ones 0
@@ -47,23 +46,14 @@ elected-under a tag i cs = go (eqb a 1) refl
     go true e = refl
     go false e = ap (λ (B : Entry → Entry → Bool). cond (eqb a 0) (getD cs (tag % length cs) noEntry) (bestOf B noEntry cs)) (better-any a 0 (digestOf tag i) e)
 
--- THE ANSWER for a set of places
-module _ (i : List ℕ) (l : List Entry) (a s tag : ℕ) where
-  abbrev Among : Answer → Type 0
-  Among r = (r ≡ answerAmong i l a s tag) × (r .n ≡ ones (r .candidates))
+-- the elected one, with the digest that its algorithm asks for
+pub elected-at : (i : List ℕ) (l : List Entry) (a s tag d at : ℕ) → d ≡ digestUnder a tag i → (at < length l) × (getD l at noEntry ≡ elected a tag d (entriesAt l (places s))) → ElectedAt i l a s tag at
+elected-at i l a s tag d at e g = (g .0, g .1 ∙ ap (λ (y : ℕ). elected a tag y (entriesAt l (places s))) e ∙ elected-under a tag i (entriesAt l (places s)))
 
-  pub among-12 : s ≡ 0 → Among (refusedAnswer 12)
-  unfolding answerAmong
-  among-12 z = (rw (eq-eqb s 0 z), ones-none)
-
-  pub among-named : (d at f n : ℕ) (x : List ℕ) → (s ≡ 0 → ⊥) → d ≡ digestUnder a tag i → getD l at noEntry ≡ elected a tag d (entriesAt l (places s))
-      → f ≡ familyOf (getD l at noEntry .address) → x ≡ addressWords (getD l at noEntry .address) → n ≡ length (places s) → n ≡ ones s
-      → Among (record { number = 0; family = f; address = x; algorithm = a; n = n; candidates = s })
-  unfolding answerAmong
-  among-named d at f n x z e g p q m o =
-      let who : getD l at noEntry ≡ elected a tag (digestOf tag i) (entriesAt l (places s)) =
-      g ∙ ap (λ (y : ℕ). elected a tag y (entriesAt l (places s))) e ∙ elected-under a tag i (entriesAt l (places s)) in
-      (rw (ne-eqb s 0 z, p, q, m, who), o)
+-- an answer that names, by its parts
+pub named-answer : (x : List ℕ) (a f m n s : ℕ) (w : List ℕ) → f ≡ familyOf x → w ≡ addressWords x → m ≡ n → m ≡ ones s
+    → (record { number = 0; family = f; address = w; algorithm = a; n = m; candidates = s } ≡ namedAnswer x a n s) × (m ≡ ones s)
+named-answer x a f m n s w p q r o = (rw (p, q, r), o)
 
 -- NONE is named exactly if no candidate is eligible
 none-named : (i : List ℕ) (l : List Entry) (tag : ℕ) (ready : List (List ℕ)) → NoneNamed l tag ready (electOf i l tag ready)
@@ -144,29 +134,33 @@ module _ (t : Table) (w : WellFormed t) (tag : ℕ) (ready : List (List ℕ)) wh
   length-cs : length cs ≡ length (places set)
   length-cs = ap length by-places ∙ length-map (places set) (λ (i : ℕ). getD es i noEntry)
 
-  -- the answer for the candidate set is the one for the candidates
-  among : answerAmong (t .esi) es (u .algorithm) set tag ≡ answerOf (t .esi) u cs set tag
-  unfolding answerAmong answerOf
-  among =
-      whether set 0
-      (λ z. rw (eq-eqb set 0 z, eq-eqb (length cs) 0 (length-cs ∙ ap (λ (x : ℕ). length (places x)) z ∙ ap length places-none)))
-      (λ n.
-      let some : length cs ≡ 0 → ⊥ = λ q. n (places-empty set fits (empty (places set) (sym length-cs ∙ q))) in
-      rw (ne-eqb set 0 n, ne-eqb (length cs) 0 some, ← length-cs, ← by-places))
-
   -- once 10 and 11 are passed, and where they refuse
   abbrev pub Elects : Answer → Type 0
   Elects r = (r ≡ electOf (t .esi) es tag ready) × (r .n ≡ ones (r .candidates))
 
-  pub asked : {r : Answer} (v : InUse) (s : ℕ) → v ≡ u → s ≡ candidateSet (v .«ac_df») ready es → reservedTag tag ≡ false → length ready ≤ 64
-      → (r ≡ answerAmong (t .esi) es (v .algorithm) s tag) × (r .n ≡ ones (r .candidates)) → Elects r
-  unfolding electOf
-  asked v s e f h k (p, q) =
-      let g : s ≡ set = f ∙ ap (λ (x : InUse). candidateSet (x .«ac_df») ready es) e in
-      (p ∙ ap₂ (λ (x : InUse) (y : ℕ). answerAmong (t .esi) es (x .algorithm) y tag) e g ∙ among ∙ rw (h, le-ltb 64 (length ready) k), q)
+  module _ (v : InUse) (s : ℕ) (e : v ≡ u) (f : s ≡ candidateSet (v .«ac_df») ready es) where
+    is-set : s ≡ set
+    is-set = f ∙ ap (λ (x : InUse). candidateSet (x .«ac_df») ready es) e
 
-  pub set-in-use : (v : InUse) (s : ℕ) → v ≡ u → s ≡ candidateSet (v .«ac_df») ready es → s < 2 ^ length es
-  set-in-use v s e f = rw (f, e) set-under
+    pub set-in-use : s < 2 ^ length es
+    set-in-use = rw (f, e) set-under
+
+    module _ (h : reservedTag tag ≡ false) (k : length ready ≤ 64) where
+      pub elects-12 : s ≡ 0 → Elects (refusedAnswer 12)
+      unfolding electOf answerOf
+      elects-12 z =
+          let none-there : length cs ≡ 0 = length-cs ∙ ap (λ (x : ℕ). length (places x)) (sym is-set ∙ z) ∙ ap length places-none in
+          (rw (h, le-ltb 64 (length ready) k, eq-eqb (length cs) 0 none-there), ones-none)
+
+      pub elects-named : {r : Answer} (at : ℕ) → (s ≡ 0 → ⊥) → ElectedAt (t .esi) es (v .algorithm) s tag at
+          → (r ≡ namedAnswer (getD es at noEntry .address) (v .algorithm) (length (places s)) s) × (r .n ≡ ones (r .candidates)) → Elects r
+      unfolding electOf answerOf
+      elects-named at z g (p, q) =
+          let some : length cs ≡ 0 → ⊥ = λ n. z (is-set ∙ places-empty set fits (empty (places set) (sym length-cs ∙ n))) in
+          let who : getD es at noEntry ≡ elected (u .algorithm) tag (digestOf tag (t .esi)) cs =
+          g .1 ∙ ap₂ (λ (x : InUse) (l : List Entry). elected (x .algorithm) tag (digestOf tag (t .esi)) l) e (ap (λ (y : ℕ). entriesAt es (places y)) is-set ∙ sym by-places) in
+          let count : length (places s) ≡ length cs = ap (λ (y : ℕ). length (places y)) is-set ∙ sym length-cs in
+          (p ∙ rw (h, le-ltb 64 (length ready) k, ne-eqb (length cs) 0 some, who, count, is-set, e), q)
 
   pub elects-10 : reservedTag tag ≡ true → Elects (refusedAnswer 10)
   unfolding electOf

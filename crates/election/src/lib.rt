@@ -7,14 +7,16 @@ use refusals::TAG_RESERVED;
 ghost use mathlib.Core.Path.{_≡_};
 ghost use Prim.Native.Nat.{_<_, _^_};
 ghost use lib.Count.{ones};
-ghost use lib.ListN.{length};
+ghost use lib.ListN.{length, getD};
+ghost use Rattle.layout.specs.Table.{noEntry};
 ghost use Rattle.layout.specs.Words.{tableIn, Valid};
+ghost use Rattle.places.specs.Places.{places};
 ghost use Rattle.ready.specs.Ready.{readyIn};
 ghost use Rattle.circuit_layout.specs.Circuits.{circuitsIn, ValidCircuits};
 ghost use Rattle.circuit_ready.specs.Routers.{readyRouters};
 ghost use Rattle.refusals.specs.Refusals.{readyTooLong};
-ghost use Rattle.election.specs.Election.{refusedAnswer, electOf, electOver, NoneNamed, Forwarder};
-ghost use Rattle.election.specs.Steps.{digestUnder, answerAmong};
+ghost use Rattle.election.specs.Election.{refusedAnswer, namedAnswer, electOf, electOver, NoneNamed, Forwarder};
+ghost use Rattle.election.specs.Steps.{digestUnder, ElectedAt};
 
 // The whole answer: 0 and the elected address, its family (4 or 6) and sixteen octets in four words, an IPv4 address in the first, then zeros; the algorithm in use, the number N of candidates and their set; or a refusal number and zeros.
 pub struct Answer {
@@ -54,17 +56,21 @@ fn refusal(number: u8) -> Answer
     }
 }
 
-// The answer for a set of places in use, under an algorithm: 12 where the set is empty. N is the number of its ones.
-fn elect_among(t: &[u32], algorithm: u8, set: u64, tag: u32) -> Answer
-    requires { ⌜ Valid (now t) × (set < 2 ^ length (tableIn (now t) .entries)) ⌝ }
-    ensures answer { λ r. ⌜ r ≡ answerAmong (tableIn (now (t .entry)) .esi) (tableIn (now (t .entry)) .entries) algorithm set tag ⌝ }
+// Of a set of places in use, which is not empty, the one that is elected for a tag.
+fn place_among(t: &[u32], algorithm: u8, set: u64, tag: u32) -> usize
+    requires { ⌜ Valid (now t) × (set ≡ 0 → ⊥) × (set < 2 ^ length (tableIn (now t) .entries)) ⌝ }
+    ensures { λ r. ⌜ ElectedAt (tableIn (now (t .entry)) .esi) (tableIn (now (t .entry)) .entries) algorithm set tag r ⌝ }
+{
+    let digest = digest_under(t, algorithm, tag);
+    winner::elected_place(t, set, algorithm, tag, digest)
+}
+
+// The answer that names the router at a place. N is the number of the ones of the candidate set.
+fn named(t: &[u32], algorithm: u8, set: u64, at: usize) -> Answer
+    requires { ⌜ Valid (now t) × (at < length (tableIn (now t) .entries)) ⌝ }
+    ensures answer { λ r. ⌜ r ≡ namedAnswer (getD (tableIn (now (t .entry)) .entries) at noEntry .address) algorithm (length (places set)) set ⌝ }
     ensures counted { λ r. ⌜ r .n ≡ ones (r .candidates) ⌝ }
 {
-    if set == 0 {
-        return refusal(NONE_ELIGIBLE);
-    }
-    let digest = digest_under(t, algorithm, tag);
-    let at = winner::elected_place(t, set, algorithm, tag, digest);
     let n = places::count(set);
     let family = layout::family_at(t, at);
     let address = layout::words_at(t, at);
@@ -96,7 +102,11 @@ pub fn elect(t: &[u32], tag: u32, ready: &[u32]) -> Answer
     }
     let u = agreement::in_use(t);
     let set = ready::candidate_set(t, u.ac_df, ready);
-    elect_among(t, u.algorithm, set, tag)
+    if set == 0 {
+        return refusal(NONE_ELIGIBLE);
+    }
+    let at = place_among(t, u.algorithm, set, tag);
+    named(t, u.algorithm, set, at)
 }
 
 // Elects over both tables: as `elect` does with the list of those routers of the route table that are ready for the tag by their A-D routes. This list is never
@@ -114,5 +124,9 @@ pub fn elect_by_circuits(t: &[u32], circuits: &[u32], tag: u32) -> Answer
     }
     let u = agreement::in_use(t);
     let set = circuit_ready::circuit_candidates(t, u.ac_df, circuits, tag);
-    elect_among(t, u.algorithm, set, tag)
+    if set == 0 {
+        return refusal(NONE_ELIGIBLE);
+    }
+    let at = place_among(t, u.algorithm, set, tag);
+    named(t, u.algorithm, set, at)
 }
