@@ -1,7 +1,7 @@
 -- `circuits_announce` meets its contract: the answer of `segment::announce_circuit` for the scope and the address that are handed in. Assumes nothing.
 use borrow.Author.Needs.{needs}
-use Rattle.exports.proofs.circuits_announce.Statement.{statement}
-use Rattle.exports.proofs.circuits_announce.Tie as tie
+use Rattle.circuit_exports.proofs.circuits_announce.Statement.{statement}
+use Rattle.circuit_exports.proofs.circuits_announce.Tie as tie
 
 returns : tie.Need-returns
 returns c =

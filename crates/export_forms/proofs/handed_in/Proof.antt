@@ -1,7 +1,7 @@
 -- `handed_in` meets its contract: one case for each family. Assumes nothing.
 use borrow.Author.Needs.{needs}
-use Rattle.exports.proofs.handed_in.Statement.{statement}
-use Rattle.exports.proofs.handed_in.Tie as tie
+use Rattle.export_forms.proofs.handed_in.Statement.{statement}
+use Rattle.export_forms.proofs.handed_in.Tie as tie
 
 returns : tie.Need-returns
 returns c = rw (c .if1 .taken)

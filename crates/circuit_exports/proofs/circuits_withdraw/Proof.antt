@@ -1,7 +1,7 @@
 -- `circuits_withdraw` meets its contract: the answer of `segment::withdraw_circuit` for the scope and the address that are handed in. Assumes nothing.
 use borrow.Author.Needs.{needs}
-use Rattle.exports.proofs.circuits_withdraw.Statement.{statement}
-use Rattle.exports.proofs.circuits_withdraw.Tie as tie
+use Rattle.circuit_exports.proofs.circuits_withdraw.Statement.{statement}
+use Rattle.circuit_exports.proofs.circuits_withdraw.Tie as tie
 
 returns : tie.Need-returns
 returns c =

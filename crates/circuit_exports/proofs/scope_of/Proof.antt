@@ -1,7 +1,7 @@
 -- `scope_of` meets its contract: one case for each kind. Assumes nothing.
 use borrow.Author.Needs.{needs}
-use Rattle.exports.proofs.scope_of.Statement.{statement}
-use Rattle.exports.proofs.scope_of.Tie as tie
+use Rattle.circuit_exports.proofs.scope_of.Statement.{statement}
+use Rattle.circuit_exports.proofs.scope_of.Tie as tie
 
 returns : tie.Need-returns
 returns c = rw (c .if1 .taken)
