@@ -102,12 +102,19 @@ fn numbers(c: &mut [u32])
     show_number(b"a reserved tag", reserved as u64, 10);
 }
 
+// The whole example, upon a fresh table of A-D routes.
+fn play(t: &[u32])
+    requires { ⌜ Valid (now t) ⌝ }
+{
+    let mut c = segment::fresh_circuits();
+    all_up(t, &mut c);
+    circuit_down(t, &mut c);
+    link_down(t, &mut c);
+    numbers(&mut c);
+}
+
 fn main() {
     let site = three_routers();
     let t = site.words;
-    let mut c = segment::fresh_circuits();
-    all_up(&t, &mut c);
-    circuit_down(&t, &mut c);
-    link_down(&t, &mut c);
-    numbers(&mut c);
+    play(&t);
 }
