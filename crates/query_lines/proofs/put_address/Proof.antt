@@ -1,10 +1,10 @@
 -- `put_address` meets its contract: each family has its form. Assumes nothing.
 use native.Mathlib.Omega.{arith}
 use Rattle.lines.proofs.Laws.{put-as}
 use Rattle.answer_lines.proofs.Laws.{text-six, text-four}
 use borrow.Author.Needs.{needs}
-use Rattle.answer_lines.proofs.put_address.Statement.{statement}
-use Rattle.answer_lines.proofs.put_address.Tie as tie
+use Rattle.query_lines.proofs.put_address.Statement.{statement}
+use Rattle.query_lines.proofs.put_address.Tie as tie
 
 returns : tie.Need-returns
 returns c =

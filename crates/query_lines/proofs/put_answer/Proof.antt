@@ -1,8 +1,8 @@
 -- `put_answer` meets its contract: which line an election's answer has. Assumes nothing.
 use Rattle.answer_lines.proofs.Laws.{written-as, query-refused, query-accepted}
 use borrow.Author.Needs.{needs}
-use Rattle.answer_lines.proofs.put_answer.Statement.{statement}
-use Rattle.answer_lines.proofs.put_answer.Tie as tie
+use Rattle.query_lines.proofs.put_answer.Statement.{statement}
+use Rattle.query_lines.proofs.put_answer.Tie as tie
 
 returns : tie.Need-returns
 returns c = written-as (c .before .before .put-line .ensures) (query-refused _ (c .before .before .before .before .if1 .taken))

@@ -2,11 +2,11 @@
 use native.Mathlib.Omega.{arith}
 use mathlib.Core.Path.{refl}
 use Rattle.lines.proofs.Laws.{put-next}
 use Rattle.answer_lines.specs.AnswerLines.{electedLine}
 use Rattle.answer_lines.proofs.Laws.{written-all, length-elected}
 use borrow.Author.Needs.{needs}
-use Rattle.answer_lines.proofs.put_elected.Statement.{statement}
-use Rattle.answer_lines.proofs.put_elected.Tie as tie
+use Rattle.query_lines.proofs.put_elected.Statement.{statement}
+use Rattle.query_lines.proofs.put_elected.Tie as tie
 
 returns : tie.Need-returns
 unfolding electedLine
