@@ -2,9 +2,9 @@
 use native.Mathlib.Nat.{lt-of-le-of-lt}
 use lib.Dec.{lit<}
 use lib.Count.{trailing-le}
-use Rattle.places.proofs.Runs.{run-ends}
-use Rattle.places.proofs.run_end.Statement.{statement}
-use Rattle.places.proofs.run_end.Tie as tie
+use Rattle.place_runs.proofs.Runs.{run-ends}
+use Rattle.place_runs.proofs.run_end.Statement.{statement}
+use Rattle.place_runs.proofs.run_end.Tie as tie
 
 cast-result : tie.Need-cast-result
 cast-result c = record { fits = lt-of-le-of-lt (trailing-le 64 _) (lit< tt) }

@@ -4,11 +4,11 @@ use native.Mathlib.Omega.{arith}
 use mathlib.Core.Path.{_≡_, refl, sym, ap, _∙_}
 use mathlib.Core.List.{List}
 use lib.ListN.{getD}
 use Rattle.places.specs.Places.{places}
 use Rattle.places.proofs.Laws.{places-none, first-le}
-use Rattle.places.proofs.Runs.{run-at, run-past}
-use Rattle.places.proofs.nth.Statement.{statement}
-use Rattle.places.proofs.nth.Tie as tie
+use Rattle.place_runs.proofs.Runs.{run-at, run-past}
+use Rattle.place_runs.proofs.nth.Statement.{statement}
+use Rattle.place_runs.proofs.nth.Tie as tie
 
 abbrev Inv-loop : tie.InvT-loop
 Inv-loop s k left₀ more₀ left more = (more ≤ k) × (getD (places left) more 64 ≡ getD (places s) k 64)

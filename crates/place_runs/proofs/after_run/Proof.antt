@@ -1,8 +1,8 @@
 -- `after_run` meets its contract: the trailing ones of a set that is filled are its lowest run and what is below it. Assumes nothing.
 use borrow.Author.Needs.{needs}
-use Rattle.places.proofs.Runs.{left-none, left-some}
-use Rattle.places.proofs.after_run.Statement.{statement}
-use Rattle.places.proofs.after_run.Tie as tie
+use Rattle.place_runs.proofs.Runs.{left-none, left-some}
+use Rattle.place_runs.proofs.after_run.Statement.{statement}
+use Rattle.place_runs.proofs.after_run.Tie as tie
 
 returns : tie.Need-returns
 returns c = left-none (c .before .before .args .s) _ (c .before .before .fits .s .fits) (c .before .filled .ensures) (c .if1 .taken)
