@@ -16,8 +16,8 @@ use Rattle.table.specs.Table.{freshTable}
 use Rattle.layout.specs.Words.{wordsOf}
 use Rattle.election.specs.Election.{electOf}
 use Rattle.returning.specs.Returning.{returningOf}
-use Rattle.segment.specs.Calls.{Call, elect, returning, Reply, changeReply, electReply, returningReply, numberIn, replyTo, leaves}
-use Rattle.segment.specs.Journal.{Announcement, originatorKey, again, entryFrom, entriesFrom, callEffect, step, journalReply, held, OnePerAddress}
+use Rattle.demand3.specs.Calls.{Call, elect, returning, Reply, changeReply, electReply, returningReply, numberIn, replyTo, leaves}
+use Rattle.demand3.specs.Journal.{Announcement, originatorKey, again, entryFrom, entriesFrom, callEffect, step, journalReply, held, OnePerAddress}
 
 abbrev pub replies : List ℕ → List Call → List Reply
 replies i cs = answers replyTo leaves (freshTable i .table) cs

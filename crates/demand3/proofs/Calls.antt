@@ -23,8 +23,8 @@ use Rattle.election.specs.declared.Answer.{Answer}
 use Rattle.election.specs.Election.{electOf}
 use Rattle.returning.specs.declared.Sent.{Sent}
 use Rattle.returning.specs.Returning.{returningOf}
-use Rattle.segment.specs.Calls.{Call, announce, withdraw, elect, returning, changeReply, electReply, returningReply, numberIn, replyTo, leaves, Changes}
-use Rattle.segment.specs.Journal.{Announcement, originatorKey, again, entryFrom, callNumber, callEffect, numberFor}
+use Rattle.demand3.specs.Calls.{Call, announce, withdraw, elect, returning, changeReply, electReply, returningReply, numberIn, replyTo, leaves, Changes}
+use Rattle.demand3.specs.Journal.{Announcement, originatorKey, again, entryFrom, callNumber, callEffect, numberFor}
 
 -- THE TABLE OF ANNOUNCEMENTS that are listed in rising order
 module _ (i : List ℕ) where

@@ -16,7 +16,7 @@ use Rattle.ready.specs.Ready.{onList, eligible, candidates, candidateSet}
 use Rattle.winner.specs.Winner.{better, elected}
 use Rattle.election.specs.Election.{reservedTag, answerOf, electOf}
 use Rattle.returning.specs.Returning.{allUnder, reaches, besideReference, advertised, returningOf}
-use Rattle.segment.specs.Values.{starred, allRight}
+use Rattle.demand3.specs.Values.{starred, allRight}
 
 pub starred-right : allRight starred ≡ true
 unfolding allRight all numberOf octetsOf sameNumbers allAre rowKey familyOf addressWords addressKey addressNumber isZero remove electionUnder communityOctets readCommunity setOf picked best bestOf crcBit crcBits crcOctet crcOver crc32Of weightOf allCarry inUse onList eligible candidates candidateSet better elected reservedTag answerOf electOf allUnder reaches besideReference advertised returningOf

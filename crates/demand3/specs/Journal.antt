@@ -25,7 +25,7 @@ use Rattle.layout.specs.Table.{Entry, entryOf, ownerOf}
 use Rattle.table.specs.Table.{announceNumber, withdrawNumber}
 use Rattle.election.specs.Election.{electOf}
 use Rattle.returning.specs.Returning.{returningOf}
-use Rattle.segment.specs.Calls.{Call, announce, withdraw, elect, returning, Reply, changeReply, electReply, returningReply}
+use Rattle.demand3.specs.Calls.{Call, announce, withdraw, elect, returning, Reply, changeReply, electReply, returningReply}
 
 pub record Announcement : Type 0 where
   pub route : List ℕ

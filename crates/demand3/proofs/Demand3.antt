@@ -21,10 +21,10 @@ use Rattle.layout.specs.Words.{wordsOf}
 use Rattle.election.specs.Election.{electOf}
 use Rattle.returning.specs.declared.Sent.{Sent}
 use Rattle.returning.specs.Returning.{returningOf}
-use Rattle.segment.specs.Calls.{Call, announce, withdraw, elect, returning, Reply, changeReply, electReply, returningReply, numberIn, replyTo, leaves}
-use Rattle.segment.specs.Journal.{Announcement, originatorKey, again, entryFrom, entriesFrom, callNumber, callEffect, numberFor, step, journalReply, held, OnePerAddress}
-use Rattle.segment.specs.Demand3.{tableAfter, Follows, Demand3}
-use Rattle.segment.proofs.Calls.{rules, state, announced-number, withdrawn-number, call-state, refused-leaves, call-kept}
+use Rattle.demand3.specs.Calls.{Call, announce, withdraw, elect, returning, Reply, changeReply, electReply, returningReply, numberIn, replyTo, leaves}
+use Rattle.demand3.specs.Journal.{Announcement, originatorKey, again, entryFrom, entriesFrom, callNumber, callEffect, numberFor, step, journalReply, held, OnePerAddress}
+use Rattle.demand3.specs.Demand3.{tableAfter, Follows, Demand3}
+use Rattle.demand3.proofs.Calls.{rules, state, announced-number, withdrawn-number, call-state, refused-leaves, call-kept}
 
 -- THE ENTRIES of what is held, in order
 entries-arranged : (js : List Announcement) → entriesFrom js ≡ arranged entryKey (map entryFrom js)
