@@ -1,8 +1,8 @@
 -- `withdrawal` meets its contract. Assumes nothing.
-use Rattle.records.proofs.Turns.{withdrawal-bad, withdrawal-right}
+use Rattle.judgement.proofs.Laws.{withdrawal-bad, withdrawal-right}
 use borrow.Author.Needs.{needs}
-use Rattle.records.proofs.withdrawal.Statement.{statement}
-use Rattle.records.proofs.withdrawal.Tie as tie
+use Rattle.judgement.proofs.withdrawal.Statement.{statement}
+use Rattle.judgement.proofs.withdrawal.Tie as tie
 
 returns : tie.Need-returns
 returns c = withdrawal-bad _ _ _ (c .before .size .ensures) (c .if1 .taken)

@@ -1,8 +1,8 @@
 -- `announcement` meets its contract. Assumes nothing.
-use Rattle.records.proofs.Turns.{announcement-short, announcement-cut, announcement-whole}
+use Rattle.judgement.proofs.Laws.{announcement-short, announcement-cut, announcement-whole}
 use borrow.Author.Needs.{needs}
-use Rattle.records.proofs.announcement.Statement.{statement}
-use Rattle.records.proofs.announcement.Tie as tie
+use Rattle.judgement.proofs.announcement.Statement.{statement}
+use Rattle.judgement.proofs.announcement.Tie as tie
 
 returns : tie.Need-returns
 returns c = announcement-short _ (c .if1 .taken)

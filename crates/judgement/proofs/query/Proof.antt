@@ -1,10 +1,10 @@
 -- `query` meets its contract. Assumes nothing.
 use native.Mathlib.Omega.{arith}
 use Rattle.payloads.proofs.Laws.{size-pos}
-use Rattle.records.proofs.Turns.{query-short, query-odd, query-right}
+use Rattle.judgement.proofs.Laws.{query-short, query-odd, query-right}
 use borrow.Author.Needs.{needs}
-use Rattle.records.proofs.query.Statement.{statement}
-use Rattle.records.proofs.query.Tie as tie
+use Rattle.judgement.proofs.query.Statement.{statement}
+use Rattle.judgement.proofs.query.Tie as tie
 
 returns : tie.Need-returns
 returns c = query-short _ _ (c .if1 .taken)

@@ -1,10 +1,10 @@
 -- `judge` meets its contract: one case for each kind. Assumes nothing.
 use native.Mathlib.Omega.{arith}
 use mathlib.Core.Path.{_∙_}
-use Rattle.records.proofs.Turns.{judged-1, judged-2, judged-3, judged-4, judged-5, judged-none}
+use Rattle.judgement.proofs.Laws.{judged-1, judged-2, judged-3, judged-4, judged-5, judged-none}
 use borrow.Author.Needs.{needs}
-use Rattle.records.proofs.judge.Statement.{statement}
-use Rattle.records.proofs.judge.Tie as tie
+use Rattle.judgement.proofs.judge.Statement.{statement}
+use Rattle.judgement.proofs.judge.Tie as tie
 
 returns : tie.Need-returns
 returns c = let a = c .before .before .before .args in c .announcement .ensures ∙ judged-1 (a .kind) (a .payload .now) (omega arith)
