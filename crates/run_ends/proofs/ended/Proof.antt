@@ -2,8 +2,8 @@
 use mathlib.Core.Path.{ap, sym}
 use Rattle.records.specs.Records.{isEnd}
 use borrow.Author.Needs.{needs}
-use Rattle.blocks.proofs.ended.Statement.{statement}
-use Rattle.blocks.proofs.ended.Tie as tie
+use Rattle.run_ends.proofs.ended.Statement.{statement}
+use Rattle.run_ends.proofs.ended.Tie as tie
 
 returns : tie.Need-returns
 unfolding isEnd

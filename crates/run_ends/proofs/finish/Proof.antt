@@ -1,11 +1,10 @@
 -- `finish` meets its contract: nothing, or the line of a bad record. Assumes nothing.
 use mathlib.Core.Path.{sym, _∙_}
 use Rattle.lines.proofs.Laws.{put-as}
-use Rattle.blocks.proofs.Runs.{put-none, end-ended, end-empty, end-left}
-use Rattle.blocks.proofs.Blocks.{end-of-part}
+use Rattle.run_ends.proofs.Runs.{put-none, end-ended, end-empty, end-left, end-of-part}
 use borrow.Author.Needs.{needs}
-use Rattle.blocks.proofs.finish.Statement.{statement}
-use Rattle.blocks.proofs.finish.Tie as tie
+use Rattle.run_ends.proofs.finish.Statement.{statement}
+use Rattle.run_ends.proofs.finish.Tie as tie
 
 returns : tie.Need-returns
 returns c =

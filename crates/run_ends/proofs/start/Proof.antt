@@ -1,8 +1,8 @@
 -- `start` meets its contract: an empty table, and no record taken. Assumes nothing.
-use Rattle.blocks.proofs.Runs.{started, run-first}
+use Rattle.run_ends.proofs.Runs.{started, run-first}
 use borrow.Author.Needs.{needs}
-use Rattle.blocks.proofs.start.Statement.{statement}
-use Rattle.blocks.proofs.start.Tie as tie
+use Rattle.run_ends.proofs.start.Statement.{statement}
+use Rattle.run_ends.proofs.start.Tie as tie
 
 returns : tie.Need-returns
 returns c =

@@ -1,8 +1,8 @@
--- Laws of the run, by what stands at its front. Assumes nothing.
+-- Laws of the run, by what stands at its front, and of its end. Assumes nothing.
 use Prim.Native.Nat.{ℕ, zero, suc, _+_, _≤_}
 use native.Mathlib.Omega.{arith}
 use mathlib.Core.Path.{_≡_, refl, ap, _∙_, sym}
-use mathlib.Core.Bool.{Bool, true, false, cond}
+use mathlib.Core.Bool.{Bool, true, false, cond, false≢true}
 use mathlib.Core.List.{List, [], _∷_, _++_}
 use lib.ListN.{replicate, length, take, drop, length-append}
 use borrow.Author.Tests.{eq-eqb, ne-eqb}
@@ -17,6 +17,7 @@ use Rattle.turns.specs.declared.Phase.{Phase}
 use Rattle.turns.specs.declared.Phase.the-variants.{Start}
 use Rattle.answer_lines.specs.AnswerLines.{badLine}
 use Rattle.turns.specs.Turns.{Bench, stateIn}
+use Rattle.run_ends.specs.Parts.{isPart}
 use Rattle.records.specs.Records.{turn, isEnd, hasEnded, before, runFor, runFrom, first, runOf, endOf}
 
 -- ---- the start
@@ -140,3 +141,20 @@ run-end-cut b s h e = run-cut b s h e ∙ sym (end-left (b .phase) s h (λ z. le
 -- no octets put at the front of a buffer
 pub put-none : (d : List ℕ) → Put d 0 [] 0 d
 put-none d = put-made (omega arith) refl (sym (stored-front d [] (omega arith)))
+
+-- ---- where the input ends
+
+-- what may still become a record prints what `endOf` says if nothing follows
+end-part : (b : Bench) (s : List ℕ) (f : Front) → hasEnded b ≡ false → front s ≡ f → isPart f ≡ true → runFrom b s ≡ endOf (b .phase) s
+unfolding isPart
+end-part b s nothing h e p = run-end-nothing b s e
+end-part b s bad h e p = absurd (false≢true p)
+end-part b s cut h e p = run-end-cut b s h e
+end-part b s (whole k l r) h e p = absurd (false≢true p)
+
+pub end-of-part : (b : Bench) (s : List ℕ) → isPart (front s) ≡ true → runFrom b s ≡ endOf (b .phase) s
+end-of-part b s p = by-end (hasEnded b) refl
+  where
+    by-end : (t : Bool) → hasEnded b ≡ t → runFrom b s ≡ endOf (b .phase) s
+    by-end true h = run-ended b s h ∙ sym (end-ended (b .phase) s h)
+    by-end false h = end-part b s (front s) h refl p
