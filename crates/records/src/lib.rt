@@ -1,5 +1,5 @@
-// One whole record of the bench program in any state of the run (document 01, "The bench program"): it is judged by `judgement`, and its turn is taken by `turns`
-// and `queries`.
+// One whole record of the bench program in any state of the run (document 01, "The bench program"): it is judged by `judgement`, and its turn is taken by `opening`,
+// `turns` and `queries`.
 use answer_lines::LINE_ROOM;
 use judgement::Judged;
 use turns::Phase;
@@ -47,7 +47,7 @@ fn carry_out(
             if kind != 0 {
                 return turns::refuse(out, at);
             }
-            turns::begin(t, payload, out, at)
+            opening::begin(t, payload, out, at)
         }
         Phase::Running => later(t, kind, payload, out, at),
         Phase::Ended => Step { phase, at },

@@ -44,7 +44,7 @@ pub fn announce(t: &mut [u32], route: &[u8], communities: &[u8]) -> Verdict
     ensures follows { λ r. ⌜ Follows (tableIn (now (t .entry))) (calls.announce (now (route .entry)) (now (communities .entry))) (calls.changeReply (r .number)) (tableIn (now (t .exit))) ⌝ }
     ensures fault { λ r. ⌜ Fault (now (route .entry)) (routeNumber (now (route .entry))) (r .offset) ⌝ }
 {
-    table::announce(t, route, communities)
+    announcing::announce(t, route, communities)
 }
 
 // Withdraws an address: 6 for address zero, 9 for one that is not present. The freed place is zero and can be filled again.

@@ -5,9 +5,9 @@ use mathlib.Core.Path.{_≡_, refl, sym, _∙_}
 use mathlib.Core.List.{_++_}
 use lib.ListN.{length, take, drop, length-set}
 use Rattle.octets.proofs.Laws.{front-next}
 use Rattle.turns.proofs.Laws.{copied}
-use Rattle.turns.proofs.copy_words.Statement.{statement}
-use Rattle.turns.proofs.copy_words.Tie as tie
+use Rattle.opening.proofs.copy_words.Statement.{statement}
+use Rattle.opening.proofs.copy_words.Tie as tie
 
 abbrev Inv-loop : tie.InvT-loop
 Inv-loop t₀ from i₀ t i = (i ≤ length from) × (length t ≡ length from) × (t ≡ take i from ++ drop i t₀)

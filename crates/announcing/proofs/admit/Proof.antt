@@ -6,10 +6,10 @@ use Rattle.address.proofs.Laws.{row-address, row-words}
 use Rattle.layout.specs.Words.{tableIn}
 use Rattle.rows.proofs.Places.{at-lt, missing-le}
 use Rattle.layout.specs.Table.{entryKey, noEntry}
 use Rattle.table.proofs.Told.{told-at, told-new, told-full}
 use borrow.Author.Needs.{needs}
-use Rattle.table.proofs.admit.Statement.{statement}
-use Rattle.table.proofs.admit.Tie as tie
+use Rattle.announcing.proofs.admit.Statement.{statement}
+use Rattle.announcing.proofs.admit.Tie as tie
 
 replace-requires : tie.Need-replace-requires
 replace-requires c κs =

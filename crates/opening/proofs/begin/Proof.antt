@@ -2,10 +2,10 @@
 use mathlib.Core.Path.{sym, _∙_}
 use Rattle.layout.specs.Words.{tableIn}
 use Rattle.layout.proofs.Words.{length-valid}
 use Rattle.turns.proofs.Laws.{stepped-end, stepped-begin}
 use borrow.Author.Needs.{needs}
-use Rattle.turns.proofs.begin.Statement.{statement}
-use Rattle.turns.proofs.begin.Tie as tie
+use Rattle.opening.proofs.begin.Statement.{statement}
+use Rattle.opening.proofs.begin.Tie as tie
 
 returns : tie.Need-returns
 returns c =

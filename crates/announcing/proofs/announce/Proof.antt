@@ -8,11 +8,11 @@ use lib.ListN.{length}
 use Rattle.route.specs.Route.{routeEsi}
 use Rattle.route.proofs.Laws.{route-length, told-originator}
 use Rattle.layout.specs.Words.{tableIn}
 use Rattle.table.proofs.Calls as calls
 use Rattle.table.proofs.Told.{announced-refused, announced-admitted, admitted-offset, list-says, length-part}
 use borrow.Author.Needs.{needs}
-use Rattle.table.proofs.announce.Statement.{statement}
-use Rattle.table.proofs.announce.Tie as tie
+use Rattle.announcing.proofs.announce.Statement.{statement}
+use Rattle.announcing.proofs.announce.Tie as tie
 
 returns : tie.Need-returns
 returns c =
