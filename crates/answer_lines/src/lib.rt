@@ -1,20 +1,10 @@
-// The answer lines of the bench program (document 01, "The bench program"): one for each record, put into a lent buffer. A line has at most 48 octets.
-use election::Answer;
+// The answer lines of the bench program (document 01, "The bench program"): one for each record, put into a lent buffer. A line has at most 48 octets. That of
+// a query is put by `query_lines`.
 ghost use mathlib.Core.Path.{_≡_};
 ghost use Prim.Native.Nat.{_+_, _≤_};
 ghost use lib.ListN.{length};
 ghost use Rattle.lines.specs.Lines.{Put};
-ghost use Rattle.answer_lines.specs.AnswerLines.{
-  badLine,
-  line,
-  offsetLine,
-  hasOffset,
-  readLine,
-  addressText,
-  electedLine,
-  queryLine,
-  Written,
-};
+ghost use Rattle.answer_lines.specs.AnswerLines.{badLine, line, offsetLine, hasOffset, readLine, Written};
 
 // The room that any line finds enough.
 pub const LINE_ROOM: usize = 48;
@@ -64,45 +54,6 @@ pub fn put_read(out: &mut [u8], at: usize, letter: u8, number: u8, offset: usize
         return put_offset(out, at, letter, number, offset);
     }
     put_line(out, at, letter, number)
-}
-
-// Puts an address: IPv4 dotted, IPv6 as 32 hexadecimal digits.
-fn put_address(out: &mut [u8], at: usize, family: u8, a: [u32; 4]) -> usize
-    ensures { λ r. ⌜ Put (now (out .entry)) at (addressText family a) r (now (out .exit)) ⌝ }
-{
-    if family == 6 {
-        let octets = address::octets(a[0], a[1], a[2], a[3]);
-        return numerals::put_hex(out, at, octets);
-    }
-    let o = octets::of_u32(a[0]);
-    numerals::put_dotted(out, at, o[0], o[1], o[2], o[3])
-}
-
-// Puts the line of an accepted query.
-fn put_elected(out: &mut [u8], at: usize, family: u8, address: [u32; 4], n: u32) -> usize
-    requires { ⌜ at + 48 ≤ length (now out) ⌝ }
-    ensures { λ r. ⌜ Written (now (out .entry)) at (electedLine family address n) r (now (out .exit)) ⌝ }
-{
-    let mut end = lines::put_run(out, at, b"q 0 ");
-    end = put_address(out, end, family, address);
-    end = lines::put_octet(out, end, b' ');
-    end = numerals::put_decimal(out, end, n as u64);
-    lines::put_octet(out, end, b'\n')
-}
-
-// Puts the line of an election's answer.
-pub fn put_answer(out: &mut [u8], at: usize, r: Answer) -> usize
-    requires { ⌜ at + 48 ≤ length (now out) ⌝ }
-    ensures { λ e. ⌜ Written (now (out .entry)) at (queryLine r) e (now (out .exit)) ⌝ }
-{
-    let number = r.number;
-    if number != 0 {
-        return put_line(out, at, b'q', number);
-    }
-    let family = r.family;
-    let address = r.address;
-    let n = r.n;
-    put_elected(out, at, family, address, n)
 }
 
 // Puts the line of a bad record, `x 16`, from position `at` on and answers the position after it; where it does not fit, the buffer stays as it is

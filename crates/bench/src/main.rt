@@ -28,7 +28,7 @@ fn write_lines(made: &[u8]) -> bool {
 
 // The input has ended, and the octets that are left are no whole record.
 fn end(phase: Phase, rest: &[u8], out: &mut [u8]) {
-    let wrote = blocks::finish(phase, rest, out);
+    let wrote = run_ends::finish(phase, rest, out);
     write_lines(&out[..wrote]);
 }
 
@@ -97,7 +97,7 @@ fn turn(t: &mut [u32], phase: Phase, block: &mut [u8], filled: usize, out: &mut 
 fn run(block: &mut [u8], out: &mut [u8])
     requires { ⌜ 259 ≤ length (now block) ⌝ }
 {
-    let begun = blocks::start();
+    let begun = run_ends::start();
     let first = begun.phase;
     let mut t = begun.table;
     let mut work = Work {

@@ -16,16 +16,17 @@ use Rattle.frames.proofs.Laws.{WholeAt, nothing-empty, cut-length}
 use Rattle.turns.specs.declared.Phase.{Phase}
 use Rattle.turns.specs.declared.Phase.the-variants.{Ended}
 use Rattle.turns.specs.declared.Step.{Step}
+use Rattle.run_ends.specs.Parts.{isPart}
+use Rattle.run_ends.proofs.Runs.{run-ended, run-whole-at, run-spoilt}
 use Rattle.blocks.specs.declared.Progress.{Progress}
 use Rattle.answer_lines.specs.AnswerLines.{badLine, Written}
 use Rattle.turns.specs.Turns.{Bench, stateIn}
 use Rattle.turns.specs.Steps.{Stepped}
-use Rattle.records.specs.Records.{turn, isEnd, hasEnded, runFrom, endOf}
-use Rattle.blocks.specs.Blocks.{isPart, stopped, Advanced, Ran, Stopped, kept, lastOf, nextIn, Why, ended, full, part, BlockTaken}
+use Rattle.records.specs.Records.{turn, isEnd, hasEnded, runFrom}
+use Rattle.blocks.specs.Blocks.{stopped, Advanced, Ran, Stopped, kept, lastOf, nextIn, Why, ended, full, part, BlockTaken}
 use Rattle.blocks.specs.declared.Taken.{Taken}
 use Rattle.blocks.specs.declared.Next.{Next}
 use Rattle.blocks.specs.declared.Next.the-variants.{Done, Again, Read}
-use Rattle.blocks.proofs.Runs.{run-ended, run-whole-at, run-spoilt, end-ended, run-end-nothing, run-end-cut}
 use Rattle.answer_lines.proofs.Laws.{written-none}
 
 -- ---- octets written at a position: those before it and they themselves, and those after
@@ -172,23 +173,6 @@ kept-all s u n i e =
 
 pub stored-none : {s k : List ℕ} → k ≡ [] → stored s 0 k ≡ s
 stored-none {s} {k} e = ap (stored s 0) e ∙ stored-front s [] (omega arith)
-
--- ---- where the input ends
-
--- what may still become a record prints what `endOf` says if nothing follows
-end-part : (b : Bench) (s : List ℕ) (f : Front) → hasEnded b ≡ false → front s ≡ f → isPart f ≡ true → runFrom b s ≡ endOf (b .phase) s
-unfolding isPart
-end-part b s nothing h e p = run-end-nothing b s e
-end-part b s bad h e p = absurd (false≢true p)
-end-part b s cut h e p = run-end-cut b s h e
-end-part b s (whole k l r) h e p = absurd (false≢true p)
-
-pub end-of-part : (b : Bench) (s : List ℕ) → isPart (front s) ≡ true → runFrom b s ≡ endOf (b .phase) s
-end-of-part b s p = by-end (hasEnded b) refl
-  where
-    by-end : (t : Bool) → hasEnded b ≡ t → runFrom b s ≡ endOf (b .phase) s
-    by-end true h = run-ended b s h ∙ sym (end-ended (b .phase) s h)
-    by-end false h = end-part b s (front s) h refl p
 
 -- ---- a whole block
 

@@ -1,3 +1,2 @@
--- Laws of the run, and of the blocks that it is taken in.
-mod Runs
+-- Laws of the blocks that a run is taken in.
 pub mod Blocks

@@ -1,5 +1,4 @@
 -- What blocks of input, taken record by record, leave and print (document 01, "The bench program").
---   isPart f                == whether the front f is what may still become a record: nothing, or a cut record
 --   stopped b s n           == whether no record is taken from the state b with the octets s left and room for n octets: the run has ended, the room is
 --                              less than 48, or s is no whole record yet
 --   Advanced b s i d w p q e
@@ -24,21 +23,16 @@ use mathlib.Core.List.{List, _++_}
 use lib.ListN.{length, take, drop}
 use lib.Dec.{ltb}
 use Rattle.octets.specs.Octets.{stored}
-use Rattle.frames.specs.Frames.{Front, nothing, bad, cut, whole, front}
+use Rattle.frames.specs.Frames.{front}
 use Rattle.turns.specs.declared.Phase.{Phase}
 use Rattle.answer_lines.specs.AnswerLines.{Written}
 use Rattle.turns.specs.Turns.{Bench}
 use Rattle.records.specs.Records.{isEnd, hasEnded, runFrom}
+use Rattle.run_ends.specs.Parts.{isPart}
 use Rattle.blocks.specs.declared.Progress.{Progress}
 use Rattle.blocks.specs.declared.Next.{Next}
 use Rattle.blocks.specs.declared.Next.the-variants.{Done, Again, Read}
 use Rattle.blocks.specs.declared.Taken.{Taken}
-
-unfoldable pub isPart : Front → Bool
-isPart nothing = true
-isPart bad = false
-isPart cut = true
-isPart (whole k p r) = false
 
 unfoldable pub stopped : Bench → List ℕ → ℕ → Bool
 stopped b s n = hasEnded b || (ltb n 48 || isPart (front s))

@@ -1,28 +1,18 @@
 // Blocks of input taken record by record (document 01, "The bench program"): what stands at a position of the block is taken by `records`, as long as
-// the records are whole and their lines find room, and what is left over is kept at the block's front. Reading and writing is the program's.
+// the records are whole and their lines find room, and what is left over is kept at the block's front. A run's start and end are in `run_ends`; reading and writing is the
+// program's.
 use answer_lines::LINE_ROOM;
 use frames::Frame;
-use table::WORDS;
 use turns::Phase;
 ghost use mathlib.Core.Path.{_≡_};
 ghost use mathlib.Core.Bool.{true, false};
-ghost use Prim.Native.Nat.{ℕ, _+_, _-_, _≤_, min};
-ghost use mathlib.Core.List.{List};
+ghost use Prim.Native.Nat.{_+_, _≤_, min};
 ghost use lib.ListN.{length};
 ghost use Rattle.octets.specs.Octets.{stored};
-ghost use Rattle.layout.specs.Table.{Table};
 ghost use Rattle.layout.specs.Words.{Valid};
-ghost use Rattle.frames.specs.Frames.{front};
-ghost use Rattle.lines.specs.Lines.{Put};
 ghost use Rattle.turns.specs.Turns.{stateIn};
-ghost use Rattle.records.specs.Records.{isEnd, first, endOf, runFrom, runOf};
-ghost use Rattle.blocks.specs.Blocks.{isPart, Advanced, Ran, Stopped, kept, nextIn, BlockTaken};
-
-// The state in which a run starts: the phase, and the words of the table that the run is then lent.
-pub struct Begun {
-    pub phase: Phase,
-    pub table: [u32; WORDS],
-}
+ghost use Rattle.records.specs.Records.{isEnd};
+ghost use Rattle.blocks.specs.Blocks.{Advanced, Ran, Stopped, kept, nextIn, BlockTaken};
 
 // What is to be done next, once the output is written: nothing, as the run has ended; the block is to be taken again, as a line may not have found room;
 // more input is to be read, as what is kept is no whole record.
@@ -45,48 +35,6 @@ struct Progress {
     phase: Phase,
     used: usize,
     wrote: usize,
-}
-
-// Whether a run has ended: nothing more is looked at.
-fn ended(phase: Phase) -> bool
-    ensures { λ r. ⌜ r ≡ isEnd phase ⌝ }
-{
-    match phase {
-        Phase::Start => false,
-        Phase::Running => false,
-        Phase::Ended => true,
-    }
-}
-
-// The state in which a run starts: from it, the run on an input is the whole output for that input.
-pub fn start() -> Begun
-    ensures answer { λ r. ⌜ stateIn (r .phase) (r .table) ≡ first ⌝ }
-    ensures run { λ r. ⌜ ((s : List ℕ) → runFrom (stateIn (r .phase) (r .table)) s ≡ runOf s) ⌝ }
-    ensures kept { λ r. ⌜ Valid (r .table) ⌝ }
-{
-    let zeros = [0u8; 10];
-    let made = segment::fresh(&zeros);
-    let words = made.table;
-    Begun {
-        phase: Phase::Start,
-        table: words,
-    }
-}
-
-// Puts what is printed where the input ends with the octets `rest`, which are no whole record: `x 16` if there are any and the run has not
-// ended. Answers how many octets that is; where they do not fit, the buffer stays as it is and the answer is 0. It is what the run on
-// those octets prints, whatever its table.
-pub fn finish(phase: Phase, rest: &[u8], out: &mut [u8]) -> usize
-    ensures answer { λ r. ⌜ Put (now (out .entry)) 0 (endOf phase (now (rest .entry))) r (now (out .exit)) ⌝ }
-    ensures run { λ _. ⌜ ((t : Table) → isPart (front (now (rest .entry))) ≡ true → runFrom (record { phase = phase; table = t }) (now (rest .entry)) ≡ endOf phase (now (rest .entry))) ⌝ }
-{
-    if ended(phase) {
-        return 0;
-    }
-    if rest.len() == 0 {
-        return 0;
-    }
-    answer_lines::put_bad(out, 0)
 }
 
 // One record at position `used` of the input, or none, where the octets from there on hold no whole record.
@@ -145,7 +93,7 @@ fn advance(
     if room < LINE_ROOM {
         return Progress { phase, used, wrote };
     }
-    if ended(phase) {
+    if run_ends::ended(phase) {
         return Progress { phase, used, wrote };
     }
     take_record(t, phase, input, used, out, wrote)
@@ -210,7 +158,7 @@ fn keep(block: &mut [u8], used: usize, filled: usize) -> usize
 fn next_in(phase: Phase, spare: usize) -> Next
     ensures { λ r. ⌜ r ≡ nextIn phase spare ⌝ }
 {
-    if ended(phase) {
+    if run_ends::ended(phase) {
         return Next::Done;
     }
     if spare < LINE_ROOM {

@@ -14,8 +14,8 @@ ghost use Rattle.circuits.specs.Changes.{adAnnounced, adWithdrawn, AdTold};
 ghost use Rattle.circuit_ready.specs.Routers.{readyRouters};
 ghost use Rattle.refusals.specs.Refusals.{readyTooLong};
 ghost use Rattle.election.specs.Election.{electOver, NoneNamed, Forwarder};
-ghost use Rattle.circuit_calls.specs.Calls as calls;
-ghost use Rattle.circuit_calls.specs.Demand3.{circuitsAfter, CircuitFollows, CircuitsDemand3};
+ghost use Rattle.circuit_demand3.specs.Calls as calls;
+ghost use Rattle.circuit_demand3.specs.Demand3.{circuitsAfter, CircuitFollows, CircuitsDemand3};
 
 // A fresh table of A-D routes, which holds none. It is the table that the empty list of calls leaves, and whatever list of calls follows, demand 3 holds of it.
 pub fn fresh_circuits() -> [u32; WORDS]

@@ -1,4 +1,3 @@
-mod Bits
+pub mod Bits
 pub mod Laws
 pub mod Flags
-pub mod Runs

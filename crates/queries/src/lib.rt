@@ -1,5 +1,5 @@
 // The turn of a bench query (document 01, "The bench program"): the tag and the ready addresses are read, and the line of the election's answer is put into a lent
-// buffer by `answer_lines`.
+// buffer by `query_lines`.
 use address::WIDTH;
 use turns::Phase;
 use turns::Step;
@@ -23,7 +23,7 @@ pub fn query(t: &[u32], v6: bool, payload: &[u8], out: &mut [u8], at: usize) -> 
     payloads::put_rows(&mut ready, rest, v6);
     let n = rest.len() / payloads::size(v6) * WIDTH;
     let answer = segment::elect(t, tag, &ready[..n]);
-    let end = answer_lines::put_answer(out, at, answer);
+    let end = query_lines::put_answer(out, at, answer);
     Step {
         phase: Phase::Running,
         at: end,

@@ -1,7 +1,4 @@
 -- The bench program's run (document 01, "The bench program"): octets in, octets out. The turns of records by kind are those of `turns`.
---   announcementOf p, withdrawalOf v p, queryOf v p == what a record with the payload p is that should be an announcement, a withdrawal or a query, IPv6 where v
---                         says so: bad where its length is wrong
---   judgedOf k p       == what a record of kind k after the first is
 --   turnOf j t p       == the turn of a record that is j
 --   laterTurn t k p    == the turn of a record of kind k after the first
 --   turnIn h t k p     == the turn of a record of kind k with the payload p in the phase h, upon the table t
@@ -16,44 +13,23 @@
 --   endOf h s          == what is printed in the phase h where the input ends with the octets s, which are no whole record
 --   takes d at p       == whether a record with the payload p is taken with its line at position `at` of a buffer that holds d: there is room for any
 --                         line, and the payload has at most 255 octets
-use Prim.Native.Nat.{ℕ, zero, suc, _+_, _-_, _%_}
+use Prim.Native.Nat.{ℕ, zero, suc, _+_}
 use mathlib.Core.Bool.{Bool, true, false, cond, _&&_}
 use mathlib.Core.List.{List, [], _++_}
-use lib.ListN.{length, getD, replicate}
+use lib.ListN.{length, replicate}
 use lib.Dec.{leb, eqb}
-use Rattle.route.specs.Route.{totalOf}
 use Rattle.layout.specs.Table.{Table}
 use Rattle.table.specs.Table.{freshTable}
 use Rattle.frames.specs.Frames.{Front, nothing, bad, cut, whole, front}
 use Rattle.answer_lines.specs.AnswerLines.{badLine}
-use Rattle.payloads.specs.Payloads.{sizeOf}
 use Rattle.turns.specs.declared.Phase.{Phase}
 use Rattle.turns.specs.declared.Phase.the-variants.{Start, Running, Ended}
-use Rattle.records.specs.declared.Judged.{Judged}
-use Rattle.records.specs.declared.Judged.the-variants.{Announcement, Withdrawal, Query, Bad}
+use Rattle.judgement.specs.declared.Judged.{Judged}
+use Rattle.judgement.specs.declared.Judged.the-variants.{Announcement, Withdrawal, Query, Bad}
+use Rattle.judgement.specs.Judgement.{judgedOf}
 use Rattle.turns.specs.Turns.{Bench, Turn, atEnd, badTurn, textTurn, announceTurn, withdrawTurn, queryTurn}
 
 -- WHICH TURN A RECORD'S IS
--- an announcement has its route octets at least, a withdrawal one address and no more, a query a tag and whole addresses
-unfoldable pub announcementOf : List ℕ → Judged
-announcementOf p = cond (leb (totalOf (getD p 20 0)) (length p)) Announcement Bad
-
-unfoldable pub withdrawalOf : Bool → List ℕ → Judged
-withdrawalOf v p = cond (eqb (length p) (sizeOf v)) (Withdrawal v) Bad
-
-unfoldable pub queryOf : Bool → List ℕ → Judged
-queryOf v p = cond (leb 4 (length p) && eqb ((length p - 4) % sizeOf v) 0) (Query v) Bad
-
--- kinds 1, 2 and 3, and for IPv6 kinds 4 and 5 (document 02, M-105)
-unfoldable pub judgedOf : ℕ → List ℕ → Judged
-judgedOf k p =
-    cond (eqb k 1) (announcementOf p)
-    (cond (eqb k 2) (withdrawalOf false p)
-    (cond (eqb k 3) (queryOf false p)
-    (cond (eqb k 4) (withdrawalOf true p)
-    (cond (eqb k 5) (queryOf true p)
-    Bad))))
-
 unfoldable pub turnOf : Judged → Table → List ℕ → Turn
 turnOf Announcement t p = announceTurn t p
 turnOf (Withdrawal v) t p = withdrawTurn t v p

@@ -1,5 +1,7 @@
-// One whole record of the bench program in any state of the run (document 01, "The bench program"): it is judged, and its turn is taken by `turns`.
+// One whole record of the bench program in any state of the run (document 01, "The bench program"): it is judged by `judgement`, and its turn is taken by `opening`,
+// `turns` and `queries`.
 use answer_lines::LINE_ROOM;
+use judgement::Judged;
 use turns::Phase;
 use turns::Step;
 ghost use mathlib.Core.Path.{_≡_};
@@ -9,75 +11,17 @@ ghost use lib.ListN.{length};
 ghost use Rattle.layout.specs.Words.{tableIn, Valid};
 ghost use Rattle.turns.specs.Turns.{stateIn};
 ghost use Rattle.turns.specs.Steps.{Stepped};
-ghost use Rattle.records.specs.Records.{announcementOf, withdrawalOf, queryOf, judgedOf, laterTurn, turn, takes};
+ghost use Rattle.records.specs.Records.{laterTurn, turn, takes};
 
 // The most octets that a record's payload has.
 const MAX_PAYLOAD: usize = 255;
-
-// What a record after the first is; a withdrawal and a query say whether their addresses are IPv6.
-pub enum Judged {
-    Announcement,
-    Withdrawal(bool),
-    Query(bool),
-    Bad,
-}
-
-// What a record is that should be an announcement: bad where it ends before its route does.
-fn announcement(payload: &[u8]) -> Judged
-    ensures { λ r. ⌜ r ≡ announcementOf (now (payload .entry)) ⌝ }
-{
-    if payload.len() < 25 {
-        return Judged::Bad;
-    }
-    if payload.len() < route::total(payload[20]) {
-        return Judged::Bad;
-    }
-    Judged::Announcement
-}
-
-// What a record is that should be a withdrawal: bad unless it is one address.
-fn withdrawal(payload: &[u8], v6: bool) -> Judged
-    ensures { λ r. ⌜ r ≡ withdrawalOf v6 (now (payload .entry)) ⌝ }
-{
-    if payload.len() != payloads::size(v6) {
-        return Judged::Bad;
-    }
-    Judged::Withdrawal(v6)
-}
-
-// What a record is that should be a query: bad unless it is a tag and whole addresses.
-fn query(payload: &[u8], v6: bool) -> Judged
-    ensures { λ r. ⌜ r ≡ queryOf v6 (now (payload .entry)) ⌝ }
-{
-    if payload.len() < 4 {
-        return Judged::Bad;
-    }
-    if (payload.len() - 4) % payloads::size(v6) != 0 {
-        return Judged::Bad;
-    }
-    Judged::Query(v6)
-}
-
-// What a record after the first is, by its kind and its payload.
-fn judge(kind: u8, payload: &[u8]) -> Judged
-    ensures { λ r. ⌜ r ≡ judgedOf kind (now (payload .entry)) ⌝ }
-{
-    match kind {
-        1 => announcement(payload),
-        2 => withdrawal(payload, false),
-        3 => query(payload, false),
-        4 => withdrawal(payload, true),
-        5 => query(payload, true),
-        _ => Judged::Bad,
-    }
-}
 
 // A record after the first: judged, and carried out.
 fn later(t: &mut [u32], kind: u8, payload: &[u8], out: &mut [u8], at: usize) -> Step
     requires { ⌜ (at + 48 ≤ length (now out)) × (length (now payload) ≤ 255) × Valid (now t) ⌝ }
     ensures { λ r. ⌜ Stepped (now (out .entry)) at (laterTurn (tableIn (now (t .entry))) kind (now (payload .entry))) r (now (t .exit)) (now (out .exit)) ⌝ }
 {
-    let judged = judge(kind, payload);
+    let judged = judgement::judge(kind, payload);
     match judged {
         Judged::Announcement => turns::announce(t, payload, out, at),
         Judged::Withdrawal(v6) => turns::withdraw(t, v6, payload, out, at),
@@ -103,7 +47,7 @@ fn carry_out(
             if kind != 0 {
                 return turns::refuse(out, at);
             }
-            turns::begin(t, payload, out, at)
+            opening::begin(t, payload, out, at)
         }
         Phase::Running => later(t, kind, payload, out, at),
         Phase::Ended => Step { phase, at },

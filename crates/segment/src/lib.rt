@@ -21,9 +21,9 @@ ghost use Rattle.layout.specs.Words.{tableIn, Valid};
 ghost use Rattle.table.specs.Table.{freshTable, announced, withdrawn, Told};
 ghost use Rattle.election.specs.Election.{electOf, NoneNamed, Forwarder};
 ghost use Rattle.returning.specs.Returning.{returningOf};
-ghost use Rattle.segment.specs.Calls as calls;
-ghost use Rattle.segment.specs.Demand3.{Demand3, Follows, tableAfter};
-ghost use Rattle.segment.specs.Values.{starred, allRight};
+ghost use Rattle.demand3.specs.Calls as calls;
+ghost use Rattle.demand3.specs.Demand3.{Demand3, Follows, tableAfter};
+ghost use Rattle.demand3.specs.Values.{starred, allRight};
 
 // A fresh table for an identifier. For a reserved one, or one that is not ten octets, 4 and the empty table of the all-zero identifier.
 // It is the table that the empty list of calls leaves. Whatever list of calls follows, demand 3 holds of it; and the definitions compute document
@@ -49,7 +49,7 @@ pub fn announce(t: &mut [u32], route: &[u8], communities: &[u8]) -> Verdict
     ensures follows { λ r. ⌜ Follows (tableIn (now (t .entry))) (calls.announce (now (route .entry)) (now (communities .entry))) (calls.changeReply (r .number)) (tableIn (now (t .exit))) ⌝ }
     ensures fault { λ r. ⌜ Fault (now (route .entry)) (routeNumber (now (route .entry))) (r .offset) ⌝ }
 {
-    table::announce(t, route, communities)
+    announcing::announce(t, route, communities)
 }
 
 // Withdraws an address: 6 for address zero, 9 for one that is not present. The freed place is zero and can be filled again.

@@ -1,5 +1,5 @@
 // The turn of one bench record of each kind (document 01, "The bench program"): it is carried out upon a lent table, and its line is put into a lent
-// buffer by `answer_lines`. The turn of a query is carried out in `queries`.
+// buffer by `answer_lines`. That of the first record is carried out in `opening`, that of a query in `queries`.
 ghost use mathlib.Core.Path.{_≡_};
 ghost use Prim.Native.Nat.{ℕ, _+_, _≤_};
 ghost use mathlib.Core.List.{List};
@@ -7,7 +7,7 @@ ghost use lib.ListN.{length, getD};
 ghost use Rattle.layout.specs.Words.{tableIn, Valid};
 ghost use Rattle.route.specs.Route.{totalOf};
 ghost use Rattle.payloads.specs.Payloads.{sizeOf};
-ghost use Rattle.turns.specs.Turns.{badTurn, textTurn, announceTurn, withdrawTurn};
+ghost use Rattle.turns.specs.Turns.{badTurn, announceTurn, withdrawTurn};
 ghost use Rattle.turns.specs.Steps.{Stepped};
 
 // Where a run stands: no record was taken, records are carried out, nothing more is looked at.
@@ -31,43 +31,6 @@ pub fn refuse(out: &mut [u8], at: usize) -> Step
     let end = answer_lines::put_bad(out, at);
     Step {
         phase: Phase::Ended,
-        at: end,
-    }
-}
-
-// Copies words, as many as there are.
-fn copy_words(t: &mut [u32], from: &[u32])
-    requires { ⌜ length (now t) ≡ length (now from) ⌝ }
-    ensures { λ _. ⌜ now (t .exit) ≡ now (from .entry) ⌝ }
-{
-    let mut i = 0;
-    while i < t.len() {
-        t[i] = from[i];
-        i += 1;
-    }
-}
-
-// The first record: a text that names the segment.
-pub fn begin(t: &mut [u32], text: &[u8], out: &mut [u8], at: usize) -> Step
-    requires { ⌜ (at + 48 ≤ length (now out)) × Valid (now t) ⌝ }
-    ensures { λ r. ⌜ Stepped (now (out .entry)) at (textTurn (tableIn (now (t .entry))) (now (text .entry))) r (now (t .exit)) (now (out .exit)) ⌝ }
-{
-    let read = esi::read_text(text);
-    let number = read.number;
-    let offset = read.offset;
-    let end = answer_lines::put_read(out, at, b'p', number, offset);
-    if number != 0 {
-        return Step {
-            phase: Phase::Ended,
-            at: end,
-        };
-    }
-    let esi = read.esi;
-    let made = segment::fresh(&esi);
-    let words = made.table;
-    copy_words(t, &words);
-    Step {
-        phase: Phase::Running,
         at: end,
     }
 }

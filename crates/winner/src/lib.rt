@@ -56,7 +56,7 @@ pub fn elected_place(t: &[u32], set: u64, algorithm: u8, tag: u32, digest: u32) 
 {
     if algorithm == 0 {
         let n = places::count(set);
-        return places::nth(set, tag % n);
+        return place_runs::nth(set, tag % n);
     }
     best(t, set, algorithm, digest)
 }

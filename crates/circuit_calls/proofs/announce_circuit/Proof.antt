@@ -1,9 +1,9 @@
 -- `announce_circuit` meets its contract: the table's own promises, and that it is the list's call. Assumes nothing.
 use borrow.Author.Needs.{needs}
 use Rattle.circuit_layout.specs.Circuits.{circuitsIn}
-use Rattle.circuit_calls.specs.Calls.{announce}
-use Rattle.circuit_calls.proofs.Calls.{announce-changes}
-use Rattle.circuit_calls.proofs.Demand3.{follows}
+use Rattle.circuit_demand3.specs.Calls.{announce}
+use Rattle.circuit_demand3.proofs.Calls.{announce-changes}
+use Rattle.circuit_demand3.proofs.Demand3.{follows}
 use Rattle.circuit_calls.proofs.announce_circuit.Statement.{statement}
 use Rattle.circuit_calls.proofs.announce_circuit.Tie as tie
 

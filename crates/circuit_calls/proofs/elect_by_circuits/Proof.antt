@@ -2,8 +2,8 @@
 use borrow.Author.Needs.{needs}
 use Rattle.layout.specs.Words.{tableIn}
 use Rattle.circuit_layout.specs.Circuits.{circuitsIn}
-use Rattle.circuit_calls.proofs.Calls.{elect-replies}
-use Rattle.circuit_calls.proofs.Demand3.{elect-follows}
+use Rattle.circuit_demand3.proofs.Calls.{elect-replies}
+use Rattle.circuit_demand3.proofs.Demand3.{elect-follows}
 use Rattle.circuit_calls.proofs.elect_by_circuits.Statement.{statement}
 use Rattle.circuit_calls.proofs.elect_by_circuits.Tie as tie
 

@@ -1,6 +1,6 @@
 -- `fresh_circuits` meets its contract: the table's own promises, that it is where every list starts, and demand 3 of every list of calls. Assumes nothing.
 use borrow.Author.Needs.{needs}
-use Rattle.circuit_calls.proofs.Demand3.{demand3, starts}
+use Rattle.circuit_demand3.proofs.Demand3.{demand3, starts}
 use Rattle.circuit_calls.proofs.fresh_circuits.Statement.{statement}
 use Rattle.circuit_calls.proofs.fresh_circuits.Tie as tie
 

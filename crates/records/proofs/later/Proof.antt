@@ -4,10 +4,12 @@ use mathlib.Core.Path.{_≡_, sym, _∙_, subst}
 use mathlib.Core.List.{List}
 use Rattle.layout.specs.Words.{tableIn}
 use Rattle.turns.proofs.Laws.{stepped-as}
-use Rattle.records.specs.Records.{judgedOf, turnOf, laterTurn}
-use Rattle.records.specs.declared.Judged.{Judged}
-use Rattle.records.specs.declared.Judged.the-variants.{Announcement, Withdrawal, Query, Bad}
-use Rattle.records.proofs.Turns.{Fits, judged-fits, turn-of}
+use Rattle.judgement.specs.Judgement.{judgedOf}
+use Rattle.judgement.specs.declared.Judged.{Judged}
+use Rattle.judgement.specs.declared.Judged.the-variants.{Announcement, Withdrawal, Query, Bad}
+use Rattle.judgement.proofs.Laws.{Fits, judged-fits}
+use Rattle.records.specs.Records.{turnOf, laterTurn}
+use Rattle.records.proofs.Turns.{turn-of}
 use borrow.Author.Needs.{needs}
 use Rattle.records.proofs.later.Statement.{statement}
 use Rattle.records.proofs.later.Tie as tie

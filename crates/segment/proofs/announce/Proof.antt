@@ -1,9 +1,9 @@
 -- `announce` meets its contract: the table's own promises, and that it is the list's call. Assumes nothing.
 use denote.Ref.{now}
 use Rattle.layout.specs.Words.{tableIn}
-use Rattle.segment.specs.Calls.{announce}
-use Rattle.segment.proofs.Calls.{announce-changes}
-use Rattle.segment.proofs.Demand3.{follows}
+use Rattle.demand3.specs.Calls.{announce}
+use Rattle.demand3.proofs.Calls.{announce-changes}
+use Rattle.demand3.proofs.Demand3.{follows}
 use borrow.Author.Needs.{needs}
 use Rattle.segment.proofs.announce.Statement.{statement}
 use Rattle.segment.proofs.announce.Tie as tie

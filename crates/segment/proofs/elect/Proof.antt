@@ -2,8 +2,8 @@
 use denote.Ref.{now}
 use Rattle.ready.specs.Ready.{readyIn}
 use Rattle.layout.specs.Words.{tableIn}
-use Rattle.segment.proofs.Calls.{elect-replies}
-use Rattle.segment.proofs.Demand3.{elect-follows}
+use Rattle.demand3.proofs.Calls.{elect-replies}
+use Rattle.demand3.proofs.Demand3.{elect-follows}
 use borrow.Author.Needs.{needs}
 use Rattle.segment.proofs.elect.Statement.{statement}
 use Rattle.segment.proofs.elect.Tie as tie

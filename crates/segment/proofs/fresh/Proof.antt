@@ -1,7 +1,7 @@
 -- `fresh` meets its contract: the table's own promises, that it is where every list starts, and demand 3 of every list of calls. Assumes nothing.
 use denote.Ref.{now}
-use Rattle.segment.proofs.Demand3.{demand3, starts}
-use Rattle.segment.proofs.Values.{starred-right}
+use Rattle.demand3.proofs.Demand3.{demand3, starts}
+use Rattle.demand3.proofs.Values.{starred-right}
 use borrow.Author.Needs.{needs}
 use Rattle.segment.proofs.fresh.Statement.{statement}
 use Rattle.segment.proofs.fresh.Tie as tie

@@ -1,8 +1,8 @@
 -- `returning` meets its contract: the returning router's own promise, and that it is the list's reply. Assumes nothing.
 use Rattle.address.specs.Address.{addressRow}
 use Rattle.layout.specs.Words.{tableIn}
-use Rattle.segment.proofs.Calls.{returning-replies}
-use Rattle.segment.proofs.Demand3.{returning-follows}
+use Rattle.demand3.proofs.Calls.{returning-replies}
+use Rattle.demand3.proofs.Demand3.{returning-follows}
 use borrow.Author.Needs.{needs}
 use Rattle.segment.proofs.returning.Statement.{statement}
 use Rattle.segment.proofs.returning.Tie as tie

@@ -1,9 +1,9 @@
 -- `withdraw` meets its contract: the table's own promises, and that it is the list's call. Assumes nothing.
 use Rattle.address.specs.Address.{addressRow}
 use Rattle.layout.specs.Words.{tableIn}
-use Rattle.segment.specs.Calls.{withdraw}
-use Rattle.segment.proofs.Calls.{withdraw-changes}
-use Rattle.segment.proofs.Demand3.{follows}
+use Rattle.demand3.specs.Calls.{withdraw}
+use Rattle.demand3.proofs.Calls.{withdraw-changes}
+use Rattle.demand3.proofs.Demand3.{follows}
 use borrow.Author.Needs.{needs}
 use Rattle.segment.proofs.withdraw.Statement.{statement}
 use Rattle.segment.proofs.withdraw.Tie as tie

@@ -1,0 +1,62 @@
+// What a record of the bench program after the first is (document 01, "The bench program"): judged by its kind and its payload, and not carried out.
+ghost use mathlib.Core.Path.{_≡_};
+ghost use mathlib.Core.Bool.{true, false};
+ghost use Rattle.judgement.specs.Judgement.{announcementOf, withdrawalOf, queryOf, judgedOf};
+
+// What a record after the first is; a withdrawal and a query say whether their addresses are IPv6.
+pub enum Judged {
+    Announcement,
+    Withdrawal(bool),
+    Query(bool),
+    Bad,
+}
+
+// What a record is that should be an announcement: bad where it ends before its route does.
+fn announcement(payload: &[u8]) -> Judged
+    ensures { λ r. ⌜ r ≡ announcementOf (now (payload .entry)) ⌝ }
+{
+    if payload.len() < 25 {
+        return Judged::Bad;
+    }
+    if payload.len() < route::total(payload[20]) {
+        return Judged::Bad;
+    }
+    Judged::Announcement
+}
+
+// What a record is that should be a withdrawal: bad unless it is one address.
+fn withdrawal(payload: &[u8], v6: bool) -> Judged
+    ensures { λ r. ⌜ r ≡ withdrawalOf v6 (now (payload .entry)) ⌝ }
+{
+    if payload.len() != payloads::size(v6) {
+        return Judged::Bad;
+    }
+    Judged::Withdrawal(v6)
+}
+
+// What a record is that should be a query: bad unless it is a tag and whole addresses.
+fn query(payload: &[u8], v6: bool) -> Judged
+    ensures { λ r. ⌜ r ≡ queryOf v6 (now (payload .entry)) ⌝ }
+{
+    if payload.len() < 4 {
+        return Judged::Bad;
+    }
+    if (payload.len() - 4) % payloads::size(v6) != 0 {
+        return Judged::Bad;
+    }
+    Judged::Query(v6)
+}
+
+// What a record after the first is, by its kind and its payload.
+pub fn judge(kind: u8, payload: &[u8]) -> Judged
+    ensures { λ r. ⌜ r ≡ judgedOf kind (now (payload .entry)) ⌝ }
+{
+    match kind {
+        1 => announcement(payload),
+        2 => withdrawal(payload, false),
+        3 => query(payload, false),
+        4 => withdrawal(payload, true),
+        5 => query(payload, true),
+        _ => Judged::Bad,
+    }
+}
