@@ -16,7 +16,7 @@ use Rattle.keyed.proofs.Keyed as keyed
 use Rattle.keyed.proofs.Order.{length-insert-room, length-remove-le}
 use Rattle.rows.specs.Rows.{rowKey, foundIn}
 use Rattle.rows.specs.declared.Found.the-variants.{At, Missing}
-use Rattle.rows.proofs.Places.{found-at, found-missing}
+use Rattle.rows.proofs.Places.{found-at, found-missing, insert-at, insert-missing, remove-at}
 use Rattle.circuit_layout.specs.declared.Scope.{Scope}
 use Rattle.circuit_layout.specs.Circuits.{adRow, reservedScope, AdRoute, CircuitsRight}
 use Rattle.circuits.specs.Changes.{adAnnounceNumber, adWithdrawNumber, AdChange, adChanged, adAnnounced, adWithdrawn}
@@ -71,8 +71,7 @@ module _ (l : List (List ℕ)) (w : CircuitsRight l) (s : Scope) (a : List ℕ) 
       unfolding adAnnounced adAnnounceNumber
       announced-at h e =
           let f = found-at rowKey (rowKey row) l i h in
-          let p = keyed.present-of rowKey (rowKey row) l 0 [] (w .rising) (f .0) in
-          let same : insert rowKey row l ≡ l = keyed.insert-present rowKey row l [] p ∙ ap (λ (j : ℕ). set l j row) (f .1) ∙ ap (set l i) (sym e) ∙ set-getD l i [] in
+          let same : insert rowKey row l ≡ l = insert-at rowKey (rowKey row) l 0 [] (w .rising) row i refl h ∙ ap (set l i) (sym e) ∙ set-getD l i [] in
           rw same (alike l _ (refused-none _ (z, (t, (ap (λ (b : Bool). not (b || ltb (length l) 256)) (f .0), tt)))))
 
       pub announced-full : foundIn rowKey (rowKey row) l ≡ Missing i → 256 ≤ length l → answered 8 l ≡ adAnnounced l s a
@@ -83,8 +82,7 @@ module _ (l : List (List ℕ)) (w : CircuitsRight l) (s : Scope) (a : List ℕ) 
       unfolding adAnnounced adAnnounceNumber
       announced-new h k =
           let f = found-missing rowKey (rowKey row) l i h in
-          let p = keyed.absent-of rowKey (rowKey row) l [] (f .0) in
-          rw (← f .1, ← keyed.insert-absent rowKey row l [] p) (alike l _ (refused-none _ (z, (t, (rw (f .0, lt-ltb _ _ k), tt)))))
+          rw (← insert-missing rowKey (rowKey row) l row [] i refl h) (alike l _ (refused-none _ (z, (t, (rw (f .0, lt-ltb _ _ k), tt)))))
 
       pub withdrawn-missing : foundIn rowKey (rowKey row) l ≡ Missing i → answered 9 l ≡ adWithdrawn l s a
       unfolding adWithdrawn adWithdrawNumber
@@ -94,8 +92,7 @@ module _ (l : List (List ℕ)) (w : CircuitsRight l) (s : Scope) (a : List ℕ) 
       unfolding adWithdrawn adWithdrawNumber
       withdrawn-at h =
           let f = found-at rowKey (rowKey row) l i h in
-          let p = keyed.present-of rowKey (rowKey row) l 0 [] (w .rising) (f .0) in
-          rw (← f .1, ← keyed.remove-present rowKey (rowKey row) l [] p) (alike l _ (refused-none _ (z, (t, (ap not (f .0), tt)))))
+          rw (← remove-at rowKey (rowKey row) l 0 [] (w .rising) i h) (alike l _ (refused-none _ (z, (t, (ap not (f .0), tt)))))
 
   -- EVERY CALL KEEPS A TABLE RIGHT
   chosen-kept : (n : ℕ) (new : List (List ℕ)) → (n ≡ 0 → CircuitsRight new) → CircuitsRight (adChanged n l new .routes)

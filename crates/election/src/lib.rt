@@ -123,10 +123,10 @@ pub fn elect_by_circuits(t: &[u32], circuits: &[u32], tag: u32) -> Answer
         return refusal(TAG_RESERVED);
     }
     let u = agreement::in_use(t);
-    let set = circuit_ready::circuit_candidates(t, u.ac_df, circuits, tag);
-    if set == 0 {
+    let up = circuit_ready::circuit_candidates(t, u.ac_df, circuits, tag);
+    if up == 0 {
         return refusal(NONE_ELIGIBLE);
     }
-    let at = place_among(t, u.algorithm, set, tag);
-    named(t, u.algorithm, set, at)
+    let at = place_among(t, u.algorithm, up, tag);
+    named(t, u.algorithm, up, at)
 }

@@ -12,11 +12,10 @@ use Rattle.lists.specs.Lists.{all}
 use Rattle.lists.proofs.Bools.{bit-halves, one-of-two}
 use Rattle.address.specs.Address.{addressKey, isZero}
 use Rattle.keyed.specs.Keyed.{Rising, dropAt}
-use Rattle.keyed.proofs.Keyed as keyed
 use Rattle.keyed.proofs.Order.{remove-absent}
 use Rattle.rows.specs.Rows.{foundIn}
 use Rattle.rows.specs.declared.Found.the-variants.{At, Missing}
-use Rattle.rows.proofs.Places.{found-at, found-missing, at-lt}
+use Rattle.rows.proofs.Places.{found-missing, at-lt, remove-at}
 use Rattle.layout.specs.Table.{Entry, entryKey, noEntry}
 use Rattle.layout.specs.Words.{standingOf}
 use Rattle.places.specs.Places.{places, setOf, picked, withoutPlace}
@@ -50,12 +49,11 @@ module _ (es : List Entry) (short : length es ≤ 64) (rising : Rising entryKey 
 
   pub others-at : (i s : ℕ) → foundIn entryKey (addressKey a) es ≡ At i → s ≡ withoutPlace all i → Others s
   others-at i s f e =
-      let p = found-at entryKey (addressKey a) es i f in
       let l = at-lt entryKey (addressKey a) es 1 noEntry rising i f in
       let bs = replicate (length es) true in
       others-of (set bs i false) s (length-set bs i false ∙ length-replicate (length es) true)
       (e ∙ ap (λ (x : ℕ). withoutPlace x i) is-all ∙ withoutPlace-set bs i (omega arith) (getD-replicate (length es) i true false l))
-      (picked-dropAt es i l ∙ sym (keyed.remove-present entryKey (addressKey a) es noEntry (keyed.present-of entryKey (addressKey a) es 1 noEntry rising (p .0)) ∙ ap (dropAt es) (p .1)))
+      (picked-dropAt es i l ∙ sym (remove-at entryKey (addressKey a) es 1 noEntry rising i f))
 
 -- A WALK over the routes of a set
 module _ (es : List Entry) (g : ℕ) where

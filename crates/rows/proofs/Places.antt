@@ -1,11 +1,11 @@
 -- What a search finds in a list, over any element and key: whether the key is there, and where. Assumes nothing.
 use Prim.Native.Nat.{ℕ, _≤_, _<_}
 use native.Mathlib.Omega.{arith}
-use mathlib.Core.Path.{_≡_, refl}
+use mathlib.Core.Path.{_≡_, refl, _∙_}
 use mathlib.Core.Bool.{Bool, true, false}
 use mathlib.Core.List.{List}
-use lib.ListN.{length, getD}
-use Rattle.keyed.specs.Keyed.{Rising, has, rank}
+use lib.ListN.{length, getD, set}
+use Rattle.keyed.specs.Keyed.{spliced, dropAt, Rising, has, rank, insert, remove}
 use Rattle.keyed.proofs.Keyed as keyed
 use Rattle.rows.specs.Rows.{foundIn}
 use Rattle.rows.specs.declared.Found.{Found}
@@ -24,6 +24,23 @@ module _ {A : Type 0} (key : A → ℕ) (m : ℕ) (l : List A) where
 
   pub found-missing : (i : ℕ) → foundIn key m l ≡ Missing i → (has key m l ≡ false) × (rank key m l ≡ i)
   found-missing i e = found-by (has key m l) (Missing i) refl e (λ h q. never (cc)) (λ h q. (h, cc))
+
+  -- insertion and removal at the place that a search found
+  pub insert-missing : (e d : A) (i : ℕ) → key e ≡ m → foundIn key m l ≡ Missing i → insert key e l ≡ spliced l i e
+  insert-missing e d i q f =
+      let k = found-missing i f in
+      keyed.insert-absent key e l d (keyed.absent-of key (key e) l d (rw q (k .0))) ∙ rw (q, k .1)
+
+  module _ (n : ℕ) (d : A) (r : Rising key n l) where
+    pub insert-at : (e : A) (i : ℕ) → key e ≡ m → foundIn key m l ≡ At i → insert key e l ≡ set l i e
+    insert-at e i q f =
+        let k = found-at i f in
+        keyed.insert-present key e l d (keyed.present-of key (key e) l n d r (rw q (k .0))) ∙ rw (q, k .1)
+
+    pub remove-at : (i : ℕ) → foundIn key m l ≡ At i → remove key m l ≡ dropAt l i
+    remove-at i f =
+        let k = found-at i f in
+        keyed.remove-present key m l d (keyed.present-of key m l n d r (k .0)) ∙ rw (k .1)
 
   pub missing-le : (i : ℕ) → foundIn key m l ≡ Missing i → i ≤ length l
   missing-le i e = omega (arith, keyed.rank-le key m l, found-missing i e .1)

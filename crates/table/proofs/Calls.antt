@@ -30,7 +30,7 @@ use Rattle.keyed.proofs.Keyed as keyed
 use Rattle.keyed.proofs.Order.{length-insert-room, length-remove-le}
 use Rattle.rows.specs.Rows.{foundIn}
 use Rattle.rows.specs.declared.Found.the-variants.{At, Missing}
-use Rattle.rows.proofs.Places.{found-at, found-missing}
+use Rattle.rows.proofs.Places.{found-at, found-missing, insert-at, insert-missing, remove-at}
 use Rattle.layout.specs.Table.{Entry, entryKey, noEntry, entryOf, EntryRight, AddressRight, Table, tableOf, WellFormed, ownerOf}
 use Rattle.table.specs.Table.{Change, announceNumber, withdrawNumber, changed, freshTable, announced, withdrawn}
 use Rattle.table.specs.Steps.{admitted}
@@ -68,16 +68,12 @@ module _ (t : Table) (w : WellFormed t) where
     pub admitted-at : foundIn entryKey (entryKey e) es ≡ At i → accepted (tableOf (t .esi) (set es i e)) ≡ admitted t e
     unfolding admitted firstRefusal
     admitted-at h =
-        let f = found-at entryKey (entryKey e) es i h in
-        let p = keyed.present-of entryKey (entryKey e) es 1 noEntry (w .rising) (f .0) in
-        rw (f .0, keyed.insert-present entryKey e es noEntry p, f .1)
+        rw (found-at entryKey (entryKey e) es i h .0, insert-at entryKey (entryKey e) es 1 noEntry (w .rising) e i refl h)
 
     pub admitted-new : foundIn entryKey (entryKey e) es ≡ Missing i → length es < 64 → accepted (tableOf (t .esi) (spliced es i e)) ≡ admitted t e
     unfolding admitted firstRefusal
     admitted-new h s =
-        let f = found-missing entryKey (entryKey e) es i h in
-        let p = keyed.absent-of entryKey (entryKey e) es noEntry (f .0) in
-        rw (f .0, lt-ltb _ _ s, keyed.insert-absent entryKey e es noEntry p, f .1)
+        rw (found-missing entryKey (entryKey e) es i h .0, lt-ltb _ _ s, insert-missing entryKey (entryKey e) es e noEntry i refl h)
 
     pub admitted-full : foundIn entryKey (entryKey e) es ≡ Missing i → 64 ≤ length es → refused 8 t ≡ admitted t e
     unfolding admitted firstRefusal
@@ -136,8 +132,7 @@ module _ (t : Table) (w : WellFormed t) where
     unfolding withdrawn withdrawNumber
     withdrawn-at i z h =
         let f = found-at entryKey (addressKey a) es i h in
-        let p = keyed.present-of entryKey (addressKey a) es 1 noEntry (w .rising) (f .0) in
-        rw (← f .1, ← keyed.remove-present entryKey (addressKey a) es noEntry p) (alike t _ (refused-none _ (z, (ap not (f .0), tt))) refl)
+        rw (← remove-at entryKey (addressKey a) es 1 noEntry (w .rising) i h) (alike t _ (refused-none _ (z, (ap not (f .0), tt))) refl)
 
 -- WHAT PASSED CHECKS SAY
 module _ (i r c : List ℕ) (p : Bool) (n : ℕ) (h : announceNumber i r c p n ≡ 0) where
