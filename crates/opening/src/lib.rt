@@ -37,7 +37,7 @@ pub fn begin(t: &mut [u32], text: &[u8], out: &mut [u8], at: usize) -> Step
         };
     }
     let esi = read.esi;
-    let made = segment::fresh(&esi);
+    let made = table::fresh(&esi);
     let words = made.table;
     copy_words(t, &words);
     Step {

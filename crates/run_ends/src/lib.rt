@@ -38,7 +38,7 @@ pub fn start() -> Begun
     ensures kept { λ r. ⌜ Valid (r .table) ⌝ }
 {
     let zeros = [0u8; 10];
-    let made = segment::fresh(&zeros);
+    let made = table::fresh(&zeros);
     let words = made.table;
     Begun {
         phase: Phase::Start,

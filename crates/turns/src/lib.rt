@@ -41,7 +41,7 @@ pub fn announce(t: &mut [u32], payload: &[u8], out: &mut [u8], at: usize) -> Ste
     ensures { λ r. ⌜ Stepped (now (out .entry)) at (announceTurn (tableIn (now (t .entry))) (now (payload .entry))) r (now (t .exit)) (now (out .exit)) ⌝ }
 {
     let n = route::total(payload[20]);
-    let verdict = segment::announce(t, &payload[..n], &payload[n..]);
+    let verdict = announcing::announce(t, &payload[..n], &payload[n..]);
     let number = verdict.number;
     let offset = verdict.offset;
     let end = answer_lines::put_read(out, at, b'a', number, offset);
@@ -57,7 +57,7 @@ pub fn withdraw(t: &mut [u32], v6: bool, payload: &[u8], out: &mut [u8], at: usi
     ensures { λ r. ⌜ Stepped (now (out .entry)) at (withdrawTurn (tableIn (now (t .entry))) v6 (now (payload .entry))) r (now (t .exit)) (now (out .exit)) ⌝ }
 {
     let address = payloads::address_at(payload, 0, v6);
-    let number = segment::withdraw(t, address);
+    let number = table::withdraw(t, address);
     let end = answer_lines::put_line(out, at, b'w', number);
     Step {
         phase: Phase::Running,

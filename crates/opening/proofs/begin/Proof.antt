@@ -13,14 +13,14 @@ returns c =
     stepped-end (s .args .text .now) _ (c .before .before .before .before .before .read-text .ensures .0) (c .before .before .before .put-read .ensures) (s .args .t .now) (s .pre .1) (c .if1 .taken)
 
 copy-words-requires : tie.Need-copy-words-requires
-copy-words-requires c κs = length-valid _ (c .before .before .before .before .before .before .before .before .before .before .before .before .before .before .before .pre .1) ∙ sym (length-valid _ (c .before .before .before .fresh .ensures .1 .0))
+copy-words-requires c κs = length-valid _ (c .before .before .before .before .before .before .before .before .before .before .before .before .before .before .before .pre .1) ∙ sym (length-valid _ (c .before .before .before .fresh .ensures .1))
 
 returns-2 : tie.Need-returns-2
 returns-2 c =
     let s = c .before .before .before .before .before .before .before .before .before .before .before .before .before .before .before .before .before .before in
     let made = c .before .before .before .before .before .before .fresh .ensures in
     stepped-begin (s .args .text .now) _ (c .before .before .before .before .before .before .before .before .before .before .before .before .before .before .read-text .ensures .0) (c .before .before .before .before .before .before .before .before .before .before .before .before .put-read .ensures) (tableIn (s .args .t .now))
-    (c .before .before .before .before .before .before .before .before .before .if1 .left) (made .0) (made .1 .0) (c .before .before .copy-words .ensures)
+    (c .before .before .before .before .before .before .before .before .before .if1 .left) (made .0) (made .1) (c .before .before .copy-words .ensures)
 
 pub begin-spec : {M : Type 1} → statement M
 begin-spec =

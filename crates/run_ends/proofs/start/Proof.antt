@@ -7,7 +7,7 @@ use Rattle.run_ends.proofs.start.Tie as tie
 returns : tie.Need-returns
 returns c =
     let e = started _ (c .before .fresh .ensures .0) in
-    (e, (run-first e, c .before .fresh .ensures .1 .0))
+    (e, (run-first e, c .before .fresh .ensures .1))
 
 pub start-spec : {M : Type 1} → statement M
 start-spec = tie.close (tie.spec (λ c. search needs) (λ c κs. search needs) returns)

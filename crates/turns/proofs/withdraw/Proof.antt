@@ -15,7 +15,7 @@ returns c =
     let u = c .before .before .before .before .before .before .before .before in
     let s = c .before .before .before .before .before .before .before .before .before .before .before .before in
     let p = s .args .payload .now in
-    stepped-withdraw (tableIn (s .args .t .now)) (s .args .v6) p _ (u .address-at .ensures ∙ ap (addressOf (s .args .v6)) (take-all (sizeOf (s .args .v6)) p (omega (arith, s .pre .1)))) (w .withdraw .ensures .0) (w .withdraw .ensures .1 .0) (c .before .before .put-line .ensures)
+    stepped-withdraw (tableIn (s .args .t .now)) (s .args .v6) p _ (u .address-at .ensures ∙ ap (addressOf (s .args .v6)) (take-all (sizeOf (s .args .v6)) p (omega (arith, s .pre .1)))) (w .withdraw .ensures .0) (w .withdraw .ensures .1) (c .before .before .put-line .ensures)
 
 pub withdraw-spec : {M : Type 1} → statement M
 withdraw-spec =
