@@ -3,9 +3,9 @@ use lib.ListN.{getD}
 use borrow.Author.Needs.{needs}
 use Rattle.layout.specs.Table.{noEntry}
 use Rattle.layout.specs.Words.{tableIn}
-use Rattle.election.proofs.Laws.{named-answer}
-use Rattle.election.proofs.named.Statement.{statement}
-use Rattle.election.proofs.named.Tie as tie
+use Rattle.answers.proofs.Laws.{named-answer}
+use Rattle.answers.proofs.named.Statement.{statement}
+use Rattle.answers.proofs.named.Tie as tie
 
 returns : tie.Need-returns
 returns c =

@@ -5,9 +5,9 @@ use mathlib.Core.List.{List}
 use borrow.Author.Needs.{needs}
 use borrow.Author.Tests.{eq-eqb, ne-eqb}
 use Rattle.hrw.specs.Weight.{digestOf}
-use Rattle.election.specs.Steps.{digestUnder}
-use Rattle.election.proofs.digest_under.Statement.{statement}
-use Rattle.election.proofs.digest_under.Tie as tie
+use Rattle.answers.specs.Steps.{digestUnder}
+use Rattle.answers.proofs.digest_under.Statement.{statement}
+use Rattle.answers.proofs.digest_under.Tie as tie
 
 returns : tie.Need-returns
 unfolding digestUnder
