@@ -1,2 +1,3 @@
 pub mod Election
+pub mod Queries
 pub mod Steps

@@ -1,19 +1,24 @@
--- What the steps of the election promise to it. The promises of the election itself cite none of these.
---   digestUnder a tag i         == the digest of the tag on the identifier i under algorithm 1, and 0 under the others, which ask for none
---   ElectedAt i l a set tag at  == the entry of l at the place `at` is the elected one of those at the places of a set, under the algorithm a
-use Prim.Native.Nat.{ℕ, _<_}
+-- What the election promises of every query, and to its own functions.
+--   Elected s q i l tag ready r        == the answer r is the election's, its N is the number of the ones of its candidate set, and what it says of who is named
+--   ElectedFor s n right f i l tag ready r == so for every query of the number n, whose lengths are right or not, and of the flow octets f
+use Prim.Native.Nat.{ℕ}
 use mathlib.Core.Path.{_≡_}
-use mathlib.Core.Bool.{cond}
+use mathlib.Core.Bool.{Bool}
 use mathlib.Core.List.{List}
-use lib.ListN.{length, getD}
-use lib.Dec.{eqb}
-use Rattle.layout.specs.Table.{Entry, noEntry}
-use Rattle.places.specs.Places.{places}
-use Rattle.hrw.specs.Weight.{digestOf}
-use Rattle.winner.specs.Winner.{elected, entriesAt}
+use lib.Count.{ones}
+use Rattle.layout.specs.Table.{Entry}
+use Rattle.settings.specs.Settings.{Settings}
+use Rattle.answers.specs.Answers.{Forwarder}
+use Rattle.answers.specs.declared.Answer.{Answer}
+use Rattle.election.specs.Queries.{Query, rightLengths, flowOctets, numberFor, methodOf, candidatesOf, electWith, NoneNamed}
 
-unfoldable pub digestUnder : ℕ → ℕ → List ℕ → ℕ
-digestUnder a tag i = cond (eqb a 1) (digestOf tag i) 0
+abbrev pub Elected : Settings → Query → List ℕ → List Entry → ℕ → List (List ℕ) → Answer → Type 0
+Elected s q i l tag ready r =
+    (r ≡ electWith s q i l tag ready)
+    × (r .n ≡ ones (r .candidates))
+    × NoneNamed s q l tag ready r
+    × (r .number ≡ 0 → Forwarder (methodOf s q i l tag) (candidatesOf s l ready) tag r)
 
-abbrev pub ElectedAt : List ℕ → List Entry → ℕ → ℕ → ℕ → ℕ → Type 0
-ElectedAt i l a set tag at = (at < length l) × (getD l at noEntry ≡ elected a tag (digestOf tag i) (entriesAt l (places set)))
+abbrev pub ElectedFor : Settings → ℕ → Bool → List ℕ → List ℕ → List Entry → ℕ → List (List ℕ) → Answer → Type 0
+ElectedFor s n right f i l tag ready r =
+    (q : Query) → numberFor s q ≡ n → rightLengths q ≡ right → flowOctets q ≡ f → Elected s q i l tag ready r

@@ -1,132 +1,93 @@
-// The Designated Forwarder election for one Ethernet Tag: the algorithm in use (`agreement`), the candidates (`ready`), the elected one of them (`winner`), and
-// the whole answer. The candidates come from a ready list, or from the A-D routes of a second table (`circuit_ready`).
+// The Designated Forwarder election for one Ethernet Tag, with what the operator has set: the algorithm in use (`agreement`), the candidates (`ready`), and the
+// answer (`answers`). A query is plain, or for a multicast flow; those for a flow are asked in `flow_election`.
 use address::WIDTH;
+use answers::Answer;
+use refusals::FLOW_LENGTH;
 use refusals::NONE_ELIGIBLE;
 use refusals::READY_TOO_LONG;
 use refusals::TAG_RESERVED;
 ghost use mathlib.Core.Path.{_≡_};
-ghost use Prim.Native.Nat.{_<_, _^_};
+ghost use mathlib.Core.List.{_++_};
 ghost use lib.Count.{ones};
-ghost use lib.ListN.{length, getD};
-ghost use Rattle.layout.specs.Table.{noEntry};
 ghost use Rattle.layout.specs.Words.{tableIn, Valid};
-ghost use Rattle.places.specs.Places.{places};
+ghost use Rattle.settings.specs.Settings.{settingsIn, ValidSettings};
 ghost use Rattle.ready.specs.Ready.{readyIn};
-ghost use Rattle.circuit_layout.specs.Circuits.{circuitsIn, ValidCircuits};
-ghost use Rattle.circuit_ready.specs.Routers.{readyRouters};
-ghost use Rattle.refusals.specs.Refusals.{readyTooLong};
-ghost use Rattle.election.specs.Election.{refusedAnswer, namedAnswer, electOf, electOver, NoneNamed, Forwarder};
-ghost use Rattle.election.specs.Steps.{digestUnder, ElectedAt};
-
-// The whole answer: 0 and the elected address, its family (4 or 6) and sixteen octets in four words, an IPv4 address in the first, then zeros; the algorithm in use, the number N of candidates and their set; or a refusal number and zeros.
-pub struct Answer {
-    pub number: u8,
-    pub family: u8,
-    pub address: [u32; 4],
-    pub algorithm: u8,
-    pub n: u32,
-    pub candidates: u64,
-}
+ghost use Rattle.answers.specs.Answers.{Forwarder};
+ghost use Rattle.election.specs.Queries.{plain, agreedOn, plainAlgorithm, methodOf, candidatesOf, electWith, NoneNamed};
+ghost use Rattle.election.specs.Steps.{ElectedFor};
 
 // The most rows that a ready list may have.
 const MAX_READY: usize = 64;
 
-// The digest of a tag on the table's segment, which only algorithm 1 asks for; 0 under the others.
-fn digest_under(t: &[u32], algorithm: u8, tag: u32) -> u32
-    requires { ⌜ Valid (now t) ⌝ }
-    ensures { λ r. ⌜ r ≡ digestUnder algorithm tag (tableIn (now (t .entry)) .esi) ⌝ }
+// The algorithm of a plain query: the one in use, but algorithm 1 where the routes agree on a number that is set.
+pub fn plain_algorithm(in_use: u8) -> u8
+    ensures { λ r. ⌜ r ≡ plainAlgorithm «in_use» ⌝ }
 {
-    if algorithm != 1 {
-        return 0;
+    if in_use < 4 {
+        return in_use;
     }
-    let esi = owner::identifier(t);
-    hrw::digest(tag, esi)
+    1
 }
 
-fn refusal(number: u8) -> Answer
-    ensures { λ r. ⌜ r ≡ refusedAnswer number ⌝ }
+// Whether the algorithm in use is a number that is set; 0 is none.
+fn agreed_on(in_use: u8, number: u32) -> bool
+    ensures { λ r. ⌜ r ≡ agreedOn «in_use» number ⌝ }
 {
-    Answer {
-        number: number,
-        family: 0,
-        address: [0; 4],
-        algorithm: 0,
-        n: 0,
-        candidates: 0,
+    if number == 0 {
+        return false;
     }
+    in_use as u32 == number
 }
 
-// Of a set of places in use, which is not empty, the one that is elected for a tag.
-fn place_among(t: &[u32], algorithm: u8, set: u64, tag: u32) -> usize
-    requires { ⌜ Valid (now t) × (set ≡ 0 → ⊥) × (set < 2 ^ length (tableIn (now t) .entries)) ⌝ }
-    ensures { λ r. ⌜ ElectedAt (tableIn (now (t .entry)) .esi) (tableIn (now (t .entry)) .entries) algorithm set tag r ⌝ }
+// Elects for a query of any kind: `number` is the one that is set for its kind, or 0; `right` tells whether the addresses of its flow, S and G, have right
+// lengths. Of a plain query both are empty, as S is for a flow (*,G). 10 for a reserved tag, 11 for a ready list over 64 rows of five words, 18 for a wrong
+// length, 12 where no route is eligible.
+pub fn elect_query(
+    t: &[u32],
+    settings: &[u32],
+    number: u32,
+    right: bool,
+    source: &[u8],
+    group: &[u8],
+    tag: u32,
+    ready: &[u32],
+) -> Answer
+    requires { ⌜ Valid (now t) × ValidSettings (now settings) ⌝ }
+    ensures { λ r. ⌜ ElectedFor (settingsIn (now (settings .entry))) number right (now (source .entry) ++ now (group .entry)) (tableIn (now (t .entry)) .esi) (tableIn (now (t .entry)) .entries) tag (readyIn (now (ready .entry))) r ⌝ }
 {
-    let digest = digest_under(t, algorithm, tag);
-    winner::elected_place(t, set, algorithm, tag, digest)
-}
-
-// The answer that names the router at a place. N is the number of the ones of the candidate set.
-fn named(t: &[u32], algorithm: u8, set: u64, at: usize) -> Answer
-    requires { ⌜ Valid (now t) × (at < length (tableIn (now t) .entries)) ⌝ }
-    ensures answer { λ r. ⌜ r ≡ namedAnswer (getD (tableIn (now (t .entry)) .entries) at noEntry .address) algorithm (length (places set)) set ⌝ }
-    ensures counted { λ r. ⌜ r .n ≡ ones (r .candidates) ⌝ }
-{
-    let n = places::count(set);
-    let family = layout::family_at(t, at);
-    let address = layout::words_at(t, at);
-    Answer {
-        number: 0,
-        family: family,
-        address: address,
-        algorithm: algorithm,
-        n: n,
-        candidates: set,
+    if tags::is_reserved(tag) {
+        return answers::refusal(TAG_RESERVED);
     }
+    if MAX_READY < ready.len() / WIDTH {
+        return answers::refusal(READY_TOO_LONG);
+    }
+    if !right {
+        return answers::refusal(FLOW_LENGTH);
+    }
+    let u = agreement::in_use(t, settings);
+    let set = ready::candidate_set(t, u.ac_df, ready);
+    if set == 0 {
+        return answers::refusal(NONE_ELIGIBLE);
+    }
+    if agreed_on(u.algorithm, number) {
+        let by_flow = answers::place_by_flow(t, set, source, group, tag);
+        return answers::named(t, u.algorithm, set, by_flow);
+    }
+    let algorithm = plain_algorithm(u.algorithm);
+    let at = answers::place_by_tag(t, algorithm, set, tag);
+    answers::named(t, algorithm, set, at)
 }
 
 // Elects the Designated Forwarder for a tag: 10 for tag 0 or 4,294,967,295, 11 for a ready list over 64 rows of five words, 12 where no route is eligible.
 // N is the number of the ones of the candidate set. An address that is named is that of a candidate; under algorithms 1 to 3 no candidate is better, and it is
 // the only such.
-pub fn elect(t: &[u32], tag: u32, ready: &[u32]) -> Answer
-    requires { ⌜ Valid (now t) ⌝ }
-    ensures answer { λ r. ⌜ r ≡ electOf (tableIn (now (t .entry)) .esi) (tableIn (now (t .entry)) .entries) tag (readyIn (now (ready .entry))) ⌝ }
+pub fn elect(t: &[u32], settings: &[u32], tag: u32, ready: &[u32]) -> Answer
+    requires { ⌜ Valid (now t) × ValidSettings (now settings) ⌝ }
+    ensures answer { λ r. ⌜ r ≡ electWith (settingsIn (now (settings .entry))) plain (tableIn (now (t .entry)) .esi) (tableIn (now (t .entry)) .entries) tag (readyIn (now (ready .entry))) ⌝ }
     ensures counted { λ r. ⌜ r .n ≡ ones (r .candidates) ⌝ }
-    ensures none_named { λ r. ⌜ NoneNamed (tableIn (now (t .entry)) .entries) tag (readyIn (now (ready .entry))) r ⌝ }
-    ensures forwarder { λ r. ⌜ (r .number ≡ 0 → Forwarder (tableIn (now (t .entry)) .esi) (tableIn (now (t .entry)) .entries) tag (readyIn (now (ready .entry))) r) ⌝ }
+    ensures none_named { λ r. ⌜ NoneNamed (settingsIn (now (settings .entry))) plain (tableIn (now (t .entry)) .entries) tag (readyIn (now (ready .entry))) r ⌝ }
+    ensures forwarder { λ r. ⌜ (r .number ≡ 0 → Forwarder (methodOf (settingsIn (now (settings .entry))) plain (tableIn (now (t .entry)) .esi) (tableIn (now (t .entry)) .entries) tag) (candidatesOf (settingsIn (now (settings .entry))) (tableIn (now (t .entry)) .entries) (readyIn (now (ready .entry)))) tag r) ⌝ }
 {
-    if tags::is_reserved(tag) {
-        return refusal(TAG_RESERVED);
-    }
-    if MAX_READY < ready.len() / WIDTH {
-        return refusal(READY_TOO_LONG);
-    }
-    let u = agreement::in_use(t);
-    let set = ready::candidate_set(t, u.ac_df, ready);
-    if set == 0 {
-        return refusal(NONE_ELIGIBLE);
-    }
-    let at = place_among(t, u.algorithm, set, tag);
-    named(t, u.algorithm, set, at)
-}
-
-// Elects over both tables: as `elect` does with the list of those routers of the route table that are ready for the tag by their A-D routes. This list is never
-// too long, so 11 is not answered.
-pub fn elect_by_circuits(t: &[u32], circuits: &[u32], tag: u32) -> Answer
-    requires { ⌜ Valid (now t) × ValidCircuits (now circuits) ⌝ }
-    ensures answer { λ r. ⌜ r ≡ electOver (tableIn (now (t .entry)) .esi) (tableIn (now (t .entry)) .entries) (circuitsIn (now (circuits .entry))) tag ⌝ }
-    ensures counted { λ r. ⌜ r .n ≡ ones (r .candidates) ⌝ }
-    ensures none_named { λ r. ⌜ NoneNamed (tableIn (now (t .entry)) .entries) tag (readyRouters (circuitsIn (now (circuits .entry))) tag (tableIn (now (t .entry)) .entries)) r ⌝ }
-    ensures forwarder { λ r. ⌜ (r .number ≡ 0 → Forwarder (tableIn (now (t .entry)) .esi) (tableIn (now (t .entry)) .entries) tag (readyRouters (circuitsIn (now (circuits .entry))) tag (tableIn (now (t .entry)) .entries)) r) ⌝ }
-    ensures never_long { λ r. ⌜ (r .number ≡ readyTooLong → ⊥) ⌝ }
-{
-    if tags::is_reserved(tag) {
-        return refusal(TAG_RESERVED);
-    }
-    let u = agreement::in_use(t);
-    let up = circuit_ready::circuit_candidates(t, u.ac_df, circuits, tag);
-    if up == 0 {
-        return refusal(NONE_ELIGIBLE);
-    }
-    let at = place_among(t, u.algorithm, up, tag);
-    named(t, u.algorithm, up, at)
+    let none: [u8; 0] = [0; 0];
+    elect_query(t, settings, 0, true, &none, &none, tag, ready)
 }
