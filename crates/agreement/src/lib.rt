@@ -1,7 +1,8 @@
 // The algorithm and the AC-DF bit that an election goes by: what all routes of the table agree on.
 ghost use mathlib.Core.Path.{_≡_};
 ghost use Rattle.layout.specs.Words.{tableIn, Valid};
-ghost use Rattle.agreement.specs.Agreement.{inUse};
+ghost use Rattle.settings.specs.Settings.{settingsIn, ValidSettings};
+ghost use Rattle.agreement.specs.Agreement.{usable, inUseWith};
 ghost use Rattle.agreement.specs.Steps.{allOfKind};
 
 // The algorithm and the AC-DF bit in use.
@@ -15,9 +16,6 @@ const FALLBACK: InUse = InUse {
     algorithm: 0,
     ac_df: false,
 };
-
-// The greatest kind (algorithm and AC-DF bit) that can be in use: algorithm 3 with AC-DF.
-const LAST_KIND: u32 = 7;
 
 // Whether all entries are of one kind. All of them are looked at, which the compiler makes several looks at once.
 fn all_of_kind(t: &[u32], kind: u32) -> bool
@@ -36,17 +34,28 @@ fn all_of_kind(t: &[u32], kind: u32) -> bool
     same
 }
 
-// The algorithm in use: that of all routes, if they carry one algorithm from 0 to 3 and one AC-DF bit; otherwise 0 without AC-DF.
+// Whether all routes may agree on an algorithm: 0 to 3, or a number that is set.
+fn may_agree(settings: &[u32], algorithm: u32) -> bool
+    requires { ⌜ ValidSettings (now settings) ⌝ }
+    ensures { λ r. ⌜ r ≡ usable (settingsIn (now (settings .entry))) algorithm ⌝ }
+{
+    if algorithm < 4 {
+        return true;
+    }
+    settings::is_set(settings, algorithm)
+}
+
+// The algorithm in use: that of all routes, if they carry one algorithm from 0 to 3, or one that is set, and one AC-DF bit; otherwise 0 without AC-DF.
 // DP and preference are not compared.
-pub fn in_use(t: &[u32]) -> InUse
-    requires { ⌜ Valid (now t) ⌝ }
-    ensures { λ r. ⌜ r ≡ inUse (tableIn (now (t .entry)) .entries) ⌝ }
+pub fn in_use(t: &[u32], settings: &[u32]) -> InUse
+    requires { ⌜ Valid (now t) × ValidSettings (now settings) ⌝ }
+    ensures { λ r. ⌜ r ≡ inUseWith (settingsIn (now (settings .entry))) (tableIn (now (t .entry)) .entries) ⌝ }
 {
     if layout::count(t) == 0 {
         return FALLBACK;
     }
     let kind = layout::kind_at(t, 0);
-    if LAST_KIND < kind {
+    if !may_agree(settings, kind / 2) {
         return FALLBACK;
     }
     if !all_of_kind(t, kind) {

@@ -1,4 +1,4 @@
--- Laws of `specs/Crc.antt` and `specs/Weight.antt`: the CRC an octet at a time, the digest's image, and the low 31 bits that decide a weight.
+-- Laws of `specs/Crc.antt` and `specs/Weight.antt`: the CRC an octet at a time and over runs of octets, the image of a digest, and the low 31 bits that decide a weight.
 -- Assumes nothing.
 use Prim.Native.Nat.{ℕ, zero, suc, _+_, _*_, _/_, _%_, _^_, _≤_, _<_}
 use native.Mathlib.Nat.{mul-one, mul-add, mul-assoc, add-assoc, div-add-mod', mod-lt, mul-add-mod-self-right}
@@ -6,7 +6,7 @@ use native.Mathlib.Numerals.{add-one}
 use native.Mathlib.Omega.{arith}
 use mathlib.Core.Path.{_≡_, refl, ap, _∙_, sym}
 use mathlib.Core.Bool.{cond}
-use mathlib.Core.List.{List, _++_}
+use mathlib.Core.List.{List, [], _∷_, _++_}
 use lib.ListN.{length, length-append, getD, drop, drop-of-length-le}
 use lib.Seq.{drop-cons}
 use lib.Pow.{pow-pos, split}
@@ -14,8 +14,8 @@ use lib.Dec.{eqb}
 use lib.Bits.{bitXor, differ, xor-shifted, xor-mod, shifted-half, shifted-even}
 use Rattle.octets.specs.Octets.{octetsOf, stored}
 use Rattle.octets.proofs.Laws.{length-octets, stored-stored, stored-all}
-use Rattle.crc.specs.Crc.{polynomial, crcBit, crcBits, crcOctet, crcOver, crc32Of}
-use Rattle.hrw.specs.Weight.{digestOver, digestOf, weightOf}
+use Rattle.crc.specs.Crc.{polynomial, allOnes, crcBit, crcBits, crcOctet, crcOver, crc32Of}
+use Rattle.hrw.specs.Weight.{digestOver, flowDigestOf, weightOf}
 use Rattle.hrw.proofs.Xor.{bit, xor-half, xor-odd, xor-xor}
 
 -- ---- an octet at a time
@@ -68,14 +68,25 @@ pub crcOver-end : (c : ℕ) (s : List ℕ) (i : ℕ) → length s ≤ i → crcO
 unfolding crcOver
 crcOver-end c s i h = rw (drop-of-length-le s h)
 
--- the digest of an image that the tag's octets and the identifier fill
-pub digest-image : (d : List ℕ) (tag : ℕ) (esi : List ℕ) → length d ≡ 14 → length esi ≡ 10 → crc32Of (stored (stored d 0 (octetsOf 4 tag)) 4 esi) % 2 ^ 31 ≡ digestOf tag esi
-unfolding digestOf digestOver
-digest-image d tag esi hd he =
+-- octets after others go on from what those made of the register
+pub crcOver-append : (c : ℕ) (s t : List ℕ) → crcOver c (s ++ t) ≡ crcOver (crcOver c s) t
+unfolding crcOver
+crcOver-append c [] t = refl
+crcOver-append c (x ∷ s) t = crcOver-append (crcOctet c x) s t
+
+-- ---- digests
+
+-- an image that the tag's octets and the identifier fill
+pub image-stored : (d : List ℕ) (tag : ℕ) (esi : List ℕ) → length d ≡ 14 → length esi ≡ 10 → stored (stored d 0 (octetsOf 4 tag)) 4 esi ≡ octetsOf 4 tag ++ esi
+image-stored d tag esi hd he =
     let four = length-octets 4 tag in
     let all = length-append (octetsOf 4 tag) esi in
-    ap (λ (s : List ℕ). crc32Of s % 2 ^ 31)
-    (stored-stored d 0 (octetsOf 4 tag) esi 4 (omega (arith, four)) (omega arith) ∙ stored-all d (octetsOf 4 tag ++ esi) (omega (arith, four, all)))
+    stored-stored d 0 (octetsOf 4 tag) esi 4 (omega (arith, four)) (omega arith) ∙ stored-all d (octetsOf 4 tag ++ esi) (omega (arith, four, all))
+
+-- the digest of a flow, from the register that S, then G, then the image make one after the other
+pub flow-digest-steps : (source group : List ℕ) (tag : ℕ) (esi : List ℕ) → bitXor (crcOver (crcOver (crcOver allOnes source) group) (octetsOf 4 tag ++ esi)) allOnes % 2 ^ 31 ≡ flowDigestOf (source ++ group) tag esi
+unfolding flowDigestOf digestOver crc32Of
+flow-digest-steps source group tag esi = rw (crcOver-append allOnes (source ++ group) (octetsOf 4 tag ++ esi), crcOver-append allOnes source group)
 
 -- ---- the low 31 bits decide a weight
 

@@ -1,7 +1,9 @@
 // Highest random weight (HRW): CRC-32, the digest of an Ethernet Tag on a segment, and the weight of an address.
 ghost use mathlib.Core.Path.{_≡_};
-ghost use Rattle.crc.specs.Crc.{crcOctet, crc32Of};
-ghost use Rattle.hrw.specs.Weight.{digestOf, weightOf};
+ghost use mathlib.Core.List.{_++_};
+ghost use Rattle.crc.specs.Crc.{crcOctet, crcOver, crc32Of};
+ghost use Rattle.octets.specs.Octets.{octetsOf};
+ghost use Rattle.hrw.specs.Weight.{digestOf, flowDigestOf, weightOf};
 
 // The CRC register of 32 ones: a CRC starts from it, and is inverted by it at the end.
 const ALL_ONES: u32 = 0xFFFF_FFFF;
@@ -24,28 +26,54 @@ fn crc_octet(state: u32, x: u8) -> u32
     (mixed / 256) ^ crc::after_octet((mixed % 256) as u8)
 }
 
-// The CRC-32 of the octets of s.
-pub fn crc32(s: &[u8]) -> u32
-    ensures { λ r. ⌜ r ≡ crc32Of (now (s .entry)) ⌝ }
+// The CRC register after the octets of s, from any state of it.
+fn crc_over(state: u32, s: &[u8]) -> u32
+    ensures { λ r. ⌜ r ≡ crcOver state (now (s .entry)) ⌝ }
 {
-    let mut r = ALL_ONES;
+    let mut r = state;
     let mut i = 0;
     while i < s.len() {
         r = crc_octet(r, s[i]);
         i += 1;
     }
-    r ^ ALL_ONES
+    r
+}
+
+// The CRC-32 of the octets of s.
+pub fn crc32(s: &[u8]) -> u32
+    ensures { λ r. ⌜ r ≡ crc32Of (now (s .entry)) ⌝ }
+{
+    crc_over(ALL_ONES, s) ^ ALL_ONES
+}
+
+// What every digest ends with: an Ethernet Tag's four octets, high first, then the identifier's ten.
+fn image(tag: u32, esi: [u8; 10]) -> [u8; 14]
+    ensures { λ r. ⌜ r ≡ octetsOf 4 tag ++ esi ⌝ }
+{
+    let head = octets::of_u32(tag);
+    let mut s = [0; 14];
+    octets::store(&mut s, 0, &head);
+    octets::store(&mut s, 4, &esi);
+    s
 }
 
 // The digest D of an Ethernet Tag on a segment: the CRC-32 of the tag's four octets, high first, then the identifier's ten, with the top bit dropped.
 pub fn digest(tag: u32, esi: [u8; 10]) -> u32
     ensures { λ r. ⌜ r ≡ digestOf tag esi ⌝ }
 {
-    let head = octets::of_u32(tag);
-    let mut s = [0; 14];
-    octets::store(&mut s, 0, &head);
-    octets::store(&mut s, 4, &esi);
+    let s = image(tag, esi);
     crc32(&s) % TOP_BIT
+}
+
+// The digest of a multicast flow on a segment: that of the octets of S and of G, of any lengths, before those of the tag and the identifier. Of a flow (*,G), S is empty.
+pub fn flow_digest(source: &[u8], group: &[u8], tag: u32, esi: [u8; 10]) -> u32
+    ensures { λ r. ⌜ r ≡ flowDigestOf (now (source .entry) ++ now (group .entry)) tag esi ⌝ }
+{
+    let s = image(tag, esi);
+    let from_source = crc_over(ALL_ONES, source);
+    let from_group = crc_over(from_source, group);
+    let all = crc_over(from_group, &s);
+    (all ^ ALL_ONES) % TOP_BIT
 }
 
 // The weight of an address under any digest. Only the low 31 bits of what is multiplied second decide the result: with these the product fits.

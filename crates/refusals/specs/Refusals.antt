@@ -66,6 +66,10 @@ algorithmNotUsable = 15
 abbrev pub waitOutOfRange : ℕ
 waitOutOfRange = 17
 
+-- an address of a flow, S or G, that is not of 4 or 16 octets, or S and G of two lengths (document 02, M-106)
+abbrev pub flowLength : ℕ
+flowLength = 18
+
 -- a step outside -65,535 to 65,535 (document 02, M-108)
 abbrev pub stepOutOfRange : ℕ
 stepOutOfRange = 19

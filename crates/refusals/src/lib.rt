@@ -49,6 +49,9 @@ pub const ALGORITHM_NOT_USABLE: u8 = 15;
 // A wait that is not 1 to 600 seconds (document 02, M-100).
 pub const WAIT_OUT_OF_RANGE: u8 = 17;
 
+// An address of a flow, S or G, that is not of 4 or 16 octets, or S and G of two lengths (document 02, M-106).
+pub const FLOW_LENGTH: u8 = 18;
+
 // A step outside -65,535 to 65,535 (document 02, M-108).
 pub const STEP_OUT_OF_RANGE: u8 = 19;
 

@@ -1,29 +1,12 @@
--- `digest` meets its contract: the image is the tag's octets and then the identifier's. Assumes nothing.
-use mathlib.Core.Path.{refl}
+-- `digest` meets its contract: it is the CRC-32 of the image with the top bit dropped. Assumes nothing.
 use borrow.Author.Needs.{needs}
-use Rattle.hrw.proofs.Laws.{digest-image}
+use Rattle.hrw.specs.Weight.{digestOver, digestOf}
 use Rattle.hrw.proofs.digest.Statement.{statement}
 use Rattle.hrw.proofs.digest.Tie as tie
 
 returns : tie.Need-returns
-returns c =
-    let second = c .before .before .before in
-    let first = second .before .before .before .before in
-    let head = first .before .before .before in
-    rw (c .crc32 .ensures, second .store2 .ensures, first .store .ensures, head .of-u32 .ensures)
-    (digest-image _ _ _ refl (search needs))
+unfolding digestOf digestOver
+returns c = rw (c .crc32 .ensures, c .before .before .image .ensures)
 
 pub digest-spec : {M : Type 1} → statement M
-digest-spec =
-    tie.close
-    (tie.spec
-    (λ c κs. search needs)
-    (λ c. search needs)
-    (λ c. search needs)
-    (λ c κs. search needs)
-    (λ c. search needs)
-    (λ c. search needs)
-    (λ c κs. search needs)
-    (λ c. search needs)
-    (λ c κs. search needs)
-    returns)
+digest-spec = tie.close (tie.spec (λ c κs. search needs) (λ c. search needs) (λ c κs. search needs) returns)

@@ -1,0 +1,65 @@
+-- What the operator sets upon a segment, beside its routes (document 02, M-106): the algorithm numbers of the two election kinds by flow, that for (S,G)
+-- and that for (*,G). They lie in two words that a caller lends.
+--   Settings            == the two numbers; both are 0 where none are set
+--   noneSet             == none are set, as at first
+--   mayBeSet a b        == whether a, for (S,G), and b, for (*,G), may be set: two different numbers from 4 to 30
+--   isSet s a           == whether a is one of the two numbers set
+--   SettingsChange      == what setting them answers, a number, and the settings as they then are
+--   numbersSet s a b    == the answer to setting a and b, where s was set
+--   settingsWords s     == THE words of the settings s
+--   settingsIn b        == the settings that lie in the words b
+--   SettingsRight s     == what every call keeps of the settings
+--   ValidSettings b     == b is the words of settings that the calls can have made
+--   SettingsTold c n b  == the number n and the settings in the words b are what the call's answer c says
+use Prim.Native.Nat.{ℕ}
+use mathlib.Core.Path.{_≡_}
+use mathlib.Core.Bool.{Bool, true, cond, not, _&&_, _||_}
+use mathlib.Core.List.{List, [], _∷_}
+use mathlib.Core.Logic.{_⊎_}
+use lib.ListN.{getD}
+use lib.Dec.{ltb, eqb}
+use Rattle.refusals.specs.Refusals.{algorithmNotUsable}
+
+pub record Settings : Type 0 where
+  pub sourceGroup : ℕ
+  pub anySource : ℕ
+
+abbrev pub noneSet : Settings
+noneSet = record { sourceGroup = 0; anySource = 0 }
+
+abbrev pub fromFourToThirty : ℕ → Bool
+fromFourToThirty a = ltb 3 a && ltb a 31
+
+unfoldable pub mayBeSet : ℕ → ℕ → Bool
+mayBeSet a b = fromFourToThirty a && (fromFourToThirty b && not (eqb a b))
+
+unfoldable pub isSet : Settings → ℕ → Bool
+isSet s a = not (eqb a 0) && (eqb a (s .sourceGroup) || eqb a (s .anySource))
+
+-- CALLS: other numbers are refused with 15, and the old ones kept
+pub record SettingsChange : Type 0 where
+  pub number : ℕ
+  pub settings : Settings
+
+unfoldable pub numbersSet : Settings → ℕ → ℕ → SettingsChange
+numbersSet s a b = record {
+  number = cond (mayBeSet a b) 0 algorithmNotUsable;
+  settings = cond (mayBeSet a b) (record { sourceGroup = a; anySource = b }) s;
+}
+
+-- WORDS
+unfoldable pub settingsWords : Settings → List ℕ
+settingsWords s = s .sourceGroup ∷ s .anySource ∷ []
+
+unfoldable pub settingsIn : List ℕ → Settings
+settingsIn b = record { sourceGroup = getD b 0 0; anySource = getD b 1 0 }
+
+abbrev pub SettingsRight : Settings → Type 0
+SettingsRight s = (s ≡ noneSet) ⊎ (mayBeSet (s .sourceGroup) (s .anySource) ≡ true)
+
+pub record ValidSettings (b : List ℕ) : Type 0 where
+  pub sound : SettingsRight (settingsIn b)
+  pub whole : b ≡ settingsWords (settingsIn b)
+
+abbrev pub SettingsTold : SettingsChange → ℕ → List ℕ → Type 0
+SettingsTold c n b = (n ≡ c .number) × (settingsIn b ≡ c .settings)

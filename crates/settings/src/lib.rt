@@ -1,0 +1,80 @@
+// What the operator sets upon a segment, in words that a caller lends: the algorithm numbers of the two election kinds by flow, for (S,G) and for (*,G); zeros where
+// none are set.
+use refusals::ALGORITHM_NOT_USABLE;
+ghost use mathlib.Core.Path.{_≡_};
+ghost use Rattle.settings.specs.Settings.{noneSet, mayBeSet, isSet, numbersSet, settingsIn, ValidSettings, SettingsTold};
+
+// How many words the settings have.
+pub const WORDS: usize = 2;
+
+// Where the number for (S,G) and that for (*,G) lie.
+const SOURCE_GROUP: usize = 0;
+
+const ANY_SOURCE: usize = 1;
+
+// The least and the greatest number that may be set.
+const LEAST: u8 = 4;
+
+const GREATEST: u8 = 30;
+
+// Settings with none set.
+pub fn fresh() -> [u32; WORDS]
+    ensures answer { λ r. ⌜ settingsIn r ≡ noneSet ⌝ }
+    ensures kept { λ r. ⌜ ValidSettings r ⌝ }
+{
+    [0; WORDS]
+}
+
+// Whether two numbers may be set: two different ones from 4 to 30.
+fn may_be_set(source_group: u8, any_source: u8) -> bool
+    ensures { λ r. ⌜ r ≡ mayBeSet source_group any_source ⌝ }
+{
+    if source_group < LEAST || GREATEST < source_group {
+        return false;
+    }
+    if any_source < LEAST || GREATEST < any_source {
+        return false;
+    }
+    source_group != any_source
+}
+
+// Sets the number for (S,G) and the number for (*,G): 15 unless they are two different ones from 4 to 30, and then the old ones are kept.
+pub fn set_numbers(s: &mut [u32], source_group: u8, any_source: u8) -> u8
+    requires { ⌜ ValidSettings (now s) ⌝ }
+    ensures answer { λ r. ⌜ SettingsTold (numbersSet (settingsIn (now (s .entry))) source_group any_source) r (now (s .exit)) ⌝ }
+    ensures kept { λ _. ⌜ ValidSettings (now (s .exit)) ⌝ }
+{
+    if !may_be_set(source_group, any_source) {
+        return ALGORITHM_NOT_USABLE;
+    }
+    s[SOURCE_GROUP] = source_group as u32;
+    s[ANY_SOURCE] = any_source as u32;
+    0
+}
+
+// The number set for (S,G), or 0.
+pub fn source_group(s: &[u32]) -> u32
+    requires { ⌜ ValidSettings (now s) ⌝ }
+    ensures { λ r. ⌜ r ≡ settingsIn (now (s .entry)) .sourceGroup ⌝ }
+{
+    s[SOURCE_GROUP]
+}
+
+// The number set for (*,G), or 0.
+pub fn any_source(s: &[u32]) -> u32
+    requires { ⌜ ValidSettings (now s) ⌝ }
+    ensures { λ r. ⌜ r ≡ settingsIn (now (s .entry)) .anySource ⌝ }
+{
+    s[ANY_SOURCE]
+}
+
+// Whether an algorithm is one of the two numbers set.
+pub fn is_set(s: &[u32], algorithm: u32) -> bool
+    requires { ⌜ ValidSettings (now s) ⌝ }
+    ensures { λ r. ⌜ r ≡ isSet (settingsIn (now (s .entry))) algorithm ⌝ }
+{
+    if algorithm == 0 {
+        return false;
+    }
+    algorithm == s[SOURCE_GROUP] || algorithm == s[ANY_SOURCE]
+}
