@@ -43,9 +43,13 @@ elected-under a tag i cs = go (eqb a 1) refl
     go true e = refl
     go false e = ap (λ (B : Entry → Entry → Bool). cond (eqb a 0) (getD cs (tag % length cs) noEntry) (bestOf B noEntry cs)) (better-any a 0 (digestOf tag i) e)
 
--- the elected one, with the digest that its algorithm asks for
+-- the elected one, with a digest that is known
+pub elected-by : (l : List Entry) (a s tag d e at : ℕ) → d ≡ e → ElectedAt l a d s tag at → ElectedAt l a e s tag at
+elected-by l a s tag d e at p g = (g .0, g .1 ∙ ap (λ (y : ℕ). elected a tag y (entriesAt l (places s))) p)
+
+-- and with the digest that its algorithm asks for
 pub elected-at : (i : List ℕ) (l : List Entry) (a s tag d at : ℕ) → d ≡ digestUnder a tag i → ElectedAt l a d s tag at → ElectedAt l a (digestOf tag i) s tag at
-elected-at i l a s tag d at e g = (g .0, g .1 ∙ ap (λ (y : ℕ). elected a tag y (entriesAt l (places s))) e ∙ elected-under a tag i (entriesAt l (places s)))
+elected-at i l a s tag d at e g = let f = elected-by l a s tag d (digestUnder a tag i) at e g in (f .0, f .1 ∙ elected-under a tag i (entriesAt l (places s)))
 
 -- an answer that names, by its parts
 pub named-answer : (x : List ℕ) (a f m n s : ℕ) (w : List ℕ) → f ≡ familyOf x → w ≡ addressWords x → m ≡ n → m ≡ ones s

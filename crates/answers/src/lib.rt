@@ -1,13 +1,14 @@
 // What an election answers once its candidates are known: the place that is elected, by the tag or by a multicast flow, and the whole answer that names the router
 // there, or a refusal.
 ghost use mathlib.Core.Path.{_≡_};
+ghost use mathlib.Core.List.{_++_};
 ghost use Prim.Native.Nat.{_<_, _^_};
 ghost use lib.Count.{ones};
 ghost use lib.ListN.{length, getD};
 ghost use Rattle.layout.specs.Table.{noEntry};
 ghost use Rattle.layout.specs.Words.{tableIn, Valid};
 ghost use Rattle.places.specs.Places.{places};
-ghost use Rattle.hrw.specs.Weight.{digestOf};
+ghost use Rattle.hrw.specs.Weight.{digestOf, flowDigestOf};
 ghost use Rattle.answers.specs.Answers.{refusedAnswer, namedAnswer};
 ghost use Rattle.answers.specs.Steps.{digestUnder, ElectedAt};
 
@@ -54,6 +55,16 @@ pub fn place_by_tag(t: &[u32], algorithm: u8, set: u64, tag: u32) -> usize
 {
     let digest = digest_under(t, algorithm, tag);
     winner::elected_place(t, set, algorithm, tag, digest)
+}
+
+// The same for a multicast flow, whose digest is taken over S, G, the tag and the identifier: by the greatest weight, as algorithm 1 has it.
+pub fn place_by_flow(t: &[u32], set: u64, source: &[u8], group: &[u8], tag: u32) -> usize
+    requires { ⌜ Valid (now t) × (set ≡ 0 → ⊥) × (set < 2 ^ length (tableIn (now t) .entries)) ⌝ }
+    ensures { λ r. ⌜ ElectedAt (tableIn (now (t .entry)) .entries) 1 (flowDigestOf (now (source .entry) ++ now (group .entry)) tag (tableIn (now (t .entry)) .esi)) set tag r ⌝ }
+{
+    let esi = owner::identifier(t);
+    let digest = hrw::flow_digest(source, group, tag, esi);
+    winner::elected_place(t, set, 1, tag, digest)
 }
 
 // The answer that names the router at a place. N is the number of the ones of the candidate set.
