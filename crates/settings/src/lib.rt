@@ -2,7 +2,7 @@
 // none are set.
 use refusals::ALGORITHM_NOT_USABLE;
 ghost use mathlib.Core.Path.{_≡_};
-ghost use Rattle.settings.specs.Settings.{noneSet, mayBeSet, isSet, numbersSet, settingsIn, ValidSettings, SettingsTold};
+ghost use Rattle.settings.specs.Settings.{noneSet, fromFourToThirty, mayBeSet, isSet, numbersSet, settingsIn, ValidSettings, SettingsTold};
 
 // How many words the settings have.
 pub const WORDS: usize = 2;
@@ -25,14 +25,24 @@ pub fn fresh() -> [u32; WORDS]
     [0; WORDS]
 }
 
-// Whether two numbers may be set: two different ones from 4 to 30.
-fn may_be_set(source_group: u8, any_source: u8) -> bool
-    ensures { λ r. ⌜ r ≡ mayBeSet source_group any_source ⌝ }
+// Whether a number is from 4 to 30.
+fn in_range(number: u8) -> bool
+    ensures { λ r. ⌜ r ≡ fromFourToThirty number ⌝ }
 {
-    if source_group < LEAST || GREATEST < source_group {
+    if number < LEAST {
         return false;
     }
-    if any_source < LEAST || GREATEST < any_source {
+    number <= GREATEST
+}
+
+// Whether two numbers may be set: two different ones from 4 to 30.
+fn may_be_set(source_group: u8, any_source: u8) -> bool
+    ensures { λ r. ⌜ r ≡ mayBeSet «source_group» «any_source» ⌝ }
+{
+    if !in_range(source_group) {
+        return false;
+    }
+    if !in_range(any_source) {
         return false;
     }
     source_group != any_source
@@ -41,7 +51,7 @@ fn may_be_set(source_group: u8, any_source: u8) -> bool
 // Sets the number for (S,G) and the number for (*,G): 15 unless they are two different ones from 4 to 30, and then the old ones are kept.
 pub fn set_numbers(s: &mut [u32], source_group: u8, any_source: u8) -> u8
     requires { ⌜ ValidSettings (now s) ⌝ }
-    ensures answer { λ r. ⌜ SettingsTold (numbersSet (settingsIn (now (s .entry))) source_group any_source) r (now (s .exit)) ⌝ }
+    ensures answer { λ r. ⌜ SettingsTold (numbersSet (settingsIn (now (s .entry))) «source_group» «any_source») r (now (s .exit)) ⌝ }
     ensures kept { λ _. ⌜ ValidSettings (now (s .exit)) ⌝ }
 {
     if !may_be_set(source_group, any_source) {
@@ -76,5 +86,8 @@ pub fn is_set(s: &[u32], algorithm: u32) -> bool
     if algorithm == 0 {
         return false;
     }
-    algorithm == s[SOURCE_GROUP] || algorithm == s[ANY_SOURCE]
+    if algorithm == s[SOURCE_GROUP] {
+        return true;
+    }
+    algorithm == s[ANY_SOURCE]
 }

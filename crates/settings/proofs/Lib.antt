@@ -1,0 +1,2 @@
+-- Laws of the settings, for the crates above.
+pub mod Laws
