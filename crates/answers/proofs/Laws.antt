@@ -129,9 +129,12 @@ module _ (t : Table) (w : WellFormed t) (ac : Bool) (ready : List (List ℕ)) wh
   unfolding candidates candidateSet
   by-places = sym (picked-places bs es noEntry (sym length-bs) (omega (arith, length-bs, w .short)))
 
-  pub set-under : set < 2 ^ length es
+  set-under : set < 2 ^ length es
   unfolding candidateSet
   set-under = subst (λ (n : ℕ). setOf bs < 2 ^ n) length-bs (setOf-lt bs)
+
+  pub set-in-use : (s : ℕ) → s ≡ set → s < 2 ^ length es
+  set-in-use s f = rw f set-under
 
   fits : set < 2 ^ 64
   fits = lt-of-lt-of-le set-under (pow-mono (w .short))
@@ -147,19 +150,23 @@ module _ (t : Table) (w : WellFormed t) (ac : Bool) (ready : List (List ℕ)) wh
     abbrev pub Answers : Answer → Type 0
     Answers r = (r ≡ answerBy m cs set tag) × (r .n ≡ ones (r .candidates))
 
-    pub answers-12 : set ≡ 0 → Answers (refusedAnswer 12)
-    unfolding answerBy
-    answers-12 z =
-        let none-there : length cs ≡ 0 = length-cs ∙ ap (λ (x : ℕ). length (places x)) z ∙ ap length places-none in
-        (rw (eq-eqb (length cs) 0 none-there), ones-none)
+    -- where the candidate set was found to be s
+    module _ (s : ℕ) (f : s ≡ set) where
+      pub answers-12 : s ≡ 0 → Answers (refusedAnswer 12)
+      unfolding answerBy
+      answers-12 z =
+          let none-there : length cs ≡ 0 = length-cs ∙ ap (λ (x : ℕ). length (places x)) (sym f ∙ z) ∙ ap length places-none in
+          (rw (eq-eqb (length cs) 0 none-there), ones-none)
 
-    pub answers-named : {r : Answer} (at : ℕ) → (set ≡ 0 → ⊥) → ElectedAt es (m .algorithm) (m .digest) set tag at
-        → (r ≡ namedAnswer (getD es at noEntry .address) (m .told) (length (places set)) set) × (r .n ≡ ones (r .candidates)) → Answers r
-    unfolding answerBy
-    answers-named at z g (p, q) =
-        let some : length cs ≡ 0 → ⊥ = λ n. z (places-empty set fits (empty (places set) (sym length-cs ∙ n))) in
-        let who : getD es at noEntry ≡ elected (m .algorithm) tag (m .digest) cs = g .1 ∙ ap (elected (m .algorithm) tag (m .digest)) (sym by-places) in
-        (p ∙ rw (ne-eqb (length cs) 0 some, who, sym length-cs), q)
+      pub answers-named : {r : Answer} (at : ℕ) → (s ≡ 0 → ⊥) → ElectedAt es (m .algorithm) (m .digest) s tag at
+          → (r ≡ namedAnswer (getD es at noEntry .address) (m .told) (length (places s)) s) × (r .n ≡ ones (r .candidates)) → Answers r
+      unfolding answerBy
+      answers-named at z g (p, q) =
+          let some : length cs ≡ 0 → ⊥ = λ n. z (f ∙ places-empty set fits (empty (places set) (sym length-cs ∙ n))) in
+          let who : getD es at noEntry ≡ elected (m .algorithm) tag (m .digest) cs =
+          g .1 ∙ ap (elected (m .algorithm) tag (m .digest)) (ap (λ (y : ℕ). entriesAt es (places y)) f ∙ sym by-places) in
+          let count : length (places s) ≡ length cs = ap (λ (y : ℕ). length (places y)) f ∙ sym length-cs in
+          (p ∙ rw (ne-eqb (length cs) 0 some, who, count, f), q)
 
     pub forwarder-by : answerBy m cs set tag .number ≡ 0 → Forwarder m cs tag (answerBy m cs set tag)
     unfolding elected

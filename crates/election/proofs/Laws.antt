@@ -4,22 +4,25 @@ use native.Mathlib.Omega.{arith}
 use mathlib.Core.Path.{_≡_, refl, ap, _∙_, sym, subst}
 use mathlib.Core.Bool.{Bool, true, false, cond, not, _&&_}
 use mathlib.Core.List.{List, []}
-use lib.ListN.{length}
+use lib.ListN.{length, getD}
 use lib.Dec.{ltb, eqb}
 use lib.Count.{ones}
 use borrow.Author.Tests.{lt-ltb, le-ltb, ltb-true}
-use Rattle.layout.specs.Table.{Entry, Table, WellFormed}
+use Rattle.layout.specs.Table.{Entry, noEntry, Table, WellFormed}
+use Rattle.places.specs.Places.{places}
 use Rattle.tags.specs.Tags.{reservedTag}
+use Rattle.hrw.specs.Weight.{digestOf, flowDigestOf}
 use Rattle.settings.specs.Settings.{Settings, noneSet}
 use Rattle.agreement.specs.Agreement.{inUse, inUseWith}
 use Rattle.agreement.specs.declared.InUse.{InUse}
 use Rattle.agreement.proofs.Laws.{in-use-none, in-use-four}
 use Rattle.ready.specs.Ready.{candidates, candidateSet}
-use Rattle.answers.specs.Answers.{refusedAnswer, Method, byTag, answerBy, Forwarder}
+use Rattle.answers.specs.Answers.{refusedAnswer, namedAnswer, Method, byTag, answerBy, Forwarder}
+use Rattle.answers.specs.Steps.{ElectedAt}
 use Rattle.answers.specs.declared.Answer.{Answer}
-use Rattle.answers.proofs.Laws.{ones-none, none-by, Answers, forwarder-by}
+use Rattle.answers.proofs.Laws.{ones-none, none-by, Answers, answers-12, answers-named, forwarder-by}
 use Rattle.election.specs.Election.{electOf}
-use Rattle.election.specs.Queries.{Query, plain, rightLengths, numberFor, agreedOn, plainAlgorithm, methodFor, methodOf, candidatesOf, electWith, NoneNamed}
+use Rattle.election.specs.Queries.{Query, plain, rightLengths, flowOctets, numberFor, agreedOn, plainAlgorithm, methodFor, methodOf, candidatesOf, electWith, NoneNamed}
 use Rattle.election.specs.Steps.{Elected}
 
 -- THE CHECKS of a query q, where s is set
@@ -80,6 +83,16 @@ module _ (s : Settings) (q : Query) (i : List ℕ) (l : List Entry) (tag : ℕ) 
   unfolding electWith
   elects-18 h k r = (rw (h, le-ltb 64 (length ready) k, r), ones-none)
 
+-- THE METHOD of a query whose number n is agreed on, and of another
+method-flow : (s : Settings) (q : Query) (a tag : ℕ) (i : List ℕ) (n : ℕ) (o : List ℕ) → numberFor s q ≡ n → flowOctets q ≡ o → agreedOn a n ≡ true
+    → methodFor s q a tag i ≡ record { algorithm = 1; digest = flowDigestOf o tag i; told = a }
+unfolding methodFor
+method-flow s q a tag i n o p y b = rw (p, b, y)
+
+method-tag : (s : Settings) (q : Query) (a tag : ℕ) (i : List ℕ) (n : ℕ) → numberFor s q ≡ n → agreedOn a n ≡ false → methodFor s q a tag i ≡ byTag (plainAlgorithm a) tag i
+unfolding methodFor
+method-tag s q a tag i n p b = rw (p, b)
+
 -- THE PROMISES of the election upon a table, from its answer
 module _ (s : Settings) (q : Query) (t : Table) (w : WellFormed t) (tag : ℕ) (ready : List (List ℕ)) where
   abbrev whole : Answer
@@ -102,18 +115,43 @@ module _ (s : Settings) (q : Query) (t : Table) (w : WellFormed t) (tag : ℕ) (
     subst Names (sym p) chosen,
   )
 
-  -- what is in use is u, and the checks are passed
-  pub elects-by : {r : Answer} (u : InUse) → u ≡ inUseWith s (t .entries) → reservedTag tag ≡ false → length ready ≤ 64 → rightLengths q ≡ true
-      → Answers t w (u .«ac_df») ready (methodFor s q (u .algorithm) tag (t .esi)) tag r → Elected s q (t .esi) (t .entries) tag ready r
-  elects-by {r} u e h k g a =
-      let b : Answers t w (inUseWith s (t .entries) .«ac_df») ready (methodOf s q (t .esi) (t .entries) tag) tag r =
-      subst (λ (v : InUse). Answers t w (v .«ac_df») ready (methodFor s q (v .algorithm) tag (t .esi)) tag r) e a in
-      promised (b .0 ∙ sym (passes s q (t .esi) (t .entries) tag ready h k g), b .1)
+  -- where u was found to be in use, and the checks are passed
+  module _ (u : InUse) (e : u ≡ inUseWith s (t .entries)) (h : reservedTag tag ≡ false) (k : length ready ≤ 64) (g : rightLengths q ≡ true) where
+    elects-by : {r : Answer} (m : Method) → methodFor s q (u .algorithm) tag (t .esi) ≡ m → Answers t w (u .«ac_df») ready m tag r → Elected s q (t .esi) (t .entries) tag ready r
+    elects-by {r} m f a =
+        let b : Answers t w (inUseWith s (t .entries) .«ac_df») ready (methodOf s q (t .esi) (t .entries) tag) tag r =
+        subst (λ (v : InUse). Answers t w (v .«ac_df») ready (methodFor s q (v .algorithm) tag (t .esi)) tag r) e
+        (subst (λ (x : Method). Answers t w (u .«ac_df») ready x tag r) (sym f) a) in
+        promised (b .0 ∙ sym (passes s q (t .esi) (t .entries) tag ready h k g), b .1)
+
+    -- and the candidate set was found to be c
+    module _ (c : ℕ) (f : c ≡ candidateSet (u .«ac_df») ready (t .entries)) where
+      pub elects-12 : c ≡ 0 → Elected s q (t .esi) (t .entries) tag ready (refusedAnswer 12)
+      elects-12 z =
+          let m = methodFor s q (u .algorithm) tag (t .esi) in
+          elects-by m refl (answers-12 t w (u .«ac_df») ready m tag c f z)
+
+      module _ {r : Answer} (at : ℕ) (z : c ≡ 0 → ⊥) where
+        pub elects-flow : (n : ℕ) (o : List ℕ) → numberFor s q ≡ n → flowOctets q ≡ o → agreedOn (u .algorithm) n ≡ true
+            → ElectedAt (t .entries) 1 (flowDigestOf o tag (t .esi)) c tag at
+            → (r ≡ namedAnswer (getD (t .entries) at noEntry .address) (u .algorithm) (length (places c)) c) × (r .n ≡ ones (r .candidates))
+            → Elected s q (t .esi) (t .entries) tag ready r
+        elects-flow n o p y b x v =
+            let m : Method = record { algorithm = 1; digest = flowDigestOf o tag (t .esi); told = u .algorithm } in
+            elects-by m (method-flow s q (u .algorithm) tag (t .esi) n o p y b) (answers-named t w (u .«ac_df») ready m tag c f at z x v)
+
+        pub elects-tag : (n a : ℕ) → numberFor s q ≡ n → agreedOn (u .algorithm) n ≡ false → a ≡ plainAlgorithm (u .algorithm)
+            → ElectedAt (t .entries) a (digestOf tag (t .esi)) c tag at
+            → (r ≡ namedAnswer (getD (t .entries) at noEntry .address) a (length (places c)) c) × (r .n ≡ ones (r .candidates))
+            → Elected s q (t .esi) (t .entries) tag ready r
+        elects-tag n a p b y x v =
+            elects-by (byTag a tag (t .esi)) (method-tag s q (u .algorithm) tag (t .esi) n p b ∙ ap (λ (z : ℕ). byTag z tag (t .esi)) (sym y))
+            (answers-named t w (u .«ac_df») ready (byTag a tag (t .esi)) tag c f at z x v)
 
 -- DOCUMENT 01'S ELECTION is that of a plain query where none is set
 plain-method : (s : Settings) (a tag : ℕ) (i : List ℕ) → methodFor s plain a tag i ≡ byTag (plainAlgorithm a) tag i
-unfolding methodFor numberFor agreedOn
-plain-method s a tag i = refl
+unfolding numberFor agreedOn
+plain-method s a tag i = method-tag s plain a tag i 0 refl refl
 
 plain-four : (a : ℕ) → a < 4 → plainAlgorithm a ≡ a
 unfolding plainAlgorithm
