@@ -20,7 +20,7 @@ use Rattle.ready.specs.Ready.{candidates, candidateSet}
 use Rattle.answers.specs.Answers.{refusedAnswer, namedAnswer, Method, byTag, answerBy, Forwarder}
 use Rattle.answers.specs.Steps.{ElectedAt}
 use Rattle.answers.specs.declared.Answer.{Answer}
-use Rattle.answers.proofs.Laws.{ones-none, none-by, Answers, answers-12, answers-named, forwarder-by}
+use Rattle.answers.proofs.Laws.{ones-none, none-by, numbers-by, Answers, answers-12, answers-named, forwarder-by}
 use Rattle.election.specs.Election.{electOf}
 use Rattle.election.specs.Queries.{Query, plain, rightLengths, flowOctets, numberFor, agreedOn, plainAlgorithm, methodFor, methodOf, candidatesOf, electWith, NoneNamed}
 use Rattle.election.specs.Steps.{Elected}
@@ -66,6 +66,16 @@ module _ (s : Settings) (q : Query) (i : List ℕ) (l : List Entry) (tag : ℕ) 
       go false true c h = absurd (omega (arith, h))
       go false false false h = absurd (omega (arith, h))
       go false false true h = refl
+
+  -- 11 is answered for a list over 64 only
+  pub never-long : length ready ≤ 64 → electWith s q i l tag ready .number ≡ 11 → ⊥
+  unfolding electWith
+  never-long k = rw (le-ltb 64 (length ready) k) (go (reservedTag tag) (rightLengths q))
+    where
+      go : (a c : Bool) → checked a false c .number ≡ 11 → ⊥
+      go true c h = omega (arith, h)
+      go false false h = omega (arith, h)
+      go false true h = numbers-by (methodOf s q i l tag) cs set tag (λ (n : ℕ). n ≡ 11 → ⊥) (λ z. omega (arith, z)) (λ z. omega (arith, z)) h
 
   -- the answer, and N by the ones of the candidate set
   abbrev pub Elects : Answer → Type 0

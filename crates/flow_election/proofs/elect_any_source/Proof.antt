@@ -1,0 +1,19 @@
+-- `elect_any_source` meets its contract: it is the election of the query for (*,G), with the number that is set for it. Assumes nothing.
+use mathlib.Core.Path.{refl, sym}
+use borrow.Author.Needs.{needs}
+use denote.Ref.{now}
+use Rattle.election.specs.Queries.{anySource, rightLengths, flowOctets, numberFor}
+use Rattle.flow_election.proofs.elect_any_source.Statement.{statement}
+use Rattle.flow_election.proofs.elect_any_source.Tie as tie
+
+returns : tie.Need-returns
+unfolding rightLengths flowOctets numberFor
+returns c =
+    let tested = c .before .before in
+    let known = tested .before in
+    let a = known .before .before .before .before .before .args in
+    let e = c .elect-query .ensures (anySource (now (a .group))) (sym (known .any-source .ensures)) (sym (tested .is-address-length .ensures)) refl in
+    (e .0, (e .1, (e .2, e .3)))
+
+pub elect-any-source-spec : {M : Type 1} → statement M
+elect-any-source-spec = tie.close (tie.spec (λ c κs. search needs) (λ c κs. search needs) (λ c. search needs) (λ c κs. search needs) returns)

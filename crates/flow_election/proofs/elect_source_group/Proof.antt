@@ -1,0 +1,18 @@
+-- `elect_source_group` meets its contract: it is the election of the query for (S,G), with the number that is set for it. Assumes nothing.
+use mathlib.Core.Path.{refl, sym}
+use borrow.Author.Needs.{needs}
+use denote.Ref.{now}
+use Rattle.election.specs.Queries.{sourceGroup, rightLengths, flowOctets, numberFor}
+use Rattle.flow_election.proofs.elect_source_group.Statement.{statement}
+use Rattle.flow_election.proofs.elect_source_group.Tie as tie
+
+returns : tie.Need-returns
+unfolding rightLengths flowOctets numberFor
+returns c =
+    let known = c .before .before in
+    let a = known .before .before .before .before .before .before .args in
+    let e = c .elect-query .ensures (sourceGroup (now (a .source)) (now (a .group))) (sym (known .source-group .ensures)) (sym (c .before .are-lengths .ensures)) refl in
+    (e .0, (e .1, (e .2, e .3)))
+
+pub elect-source-group-spec : {M : Type 1} → statement M
+elect-source-group-spec = tie.close (tie.spec (λ c κs. search needs) (λ c κs. search needs) (λ c κs. search needs) returns)
