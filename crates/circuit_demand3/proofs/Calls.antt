@@ -19,13 +19,13 @@ use Rattle.keyed.specs.Keyed.{has, insert, remove}
 use Rattle.keyed.specs.Journal.{hold, release, neither, journalNumber}
 use Rattle.keyed.proofs.Keyed.{map-has, map-insert, map-remove}
 use Rattle.keyed.proofs.Journal.{Rules, placed}
-use Rattle.layout.specs.Table.{Table}
+use Rattle.segment_state.specs.State.{Segment}
 use Rattle.circuit_layout.specs.declared.Scope.{Scope}
 use Rattle.circuit_layout.specs.Circuits.{adRow, CircuitsRight, circuitsIn}
 use Rattle.circuits.specs.Changes.{adAnnounceNumber, adWithdrawNumber, adAnnounced, adWithdrawn, AdTold}
 use Rattle.circuits.proofs.Calls.{announced-kept, withdrawn-kept, passed-zero, passed-tag, passed-room}
-use Rattle.election.specs.declared.Answer.{Answer}
-use Rattle.election.specs.Election.{electOver}
+use Rattle.answers.specs.declared.Answer.{Answer}
+use Rattle.circuit_election.specs.Over.{electOver}
 use Rattle.circuit_demand3.specs.Calls.{CircuitCall, announce, withdraw, elect, changeReply, electReply, circuitNumber, circuitReply, circuitsLeft, CircuitChanges}
 use Rattle.circuit_demand3.specs.Journal.{AdAnnouncement, routeFrom, routeKey, againCircuit, circuitCallNumber, circuitEffect, numberHeld}
 
@@ -62,7 +62,7 @@ module _ (l : List AdAnnouncement) where
       chosen (adWithdrawn (state l) s (addressRow a) .number) (numberHeld l (withdraw s a)) (remove rowKey k (state l)) (remove routeKey k l)
       (withdrawn-number s a)
       (sym (map-remove routeFrom routeKey rowKey (λ x. refl) k l))
-  call-state (elect t tag) = refl
+  call-state (elect s tag) = refl
 
 -- THE RULES: a new route is held only where there is room, and an announcement that was accepted once is accepted wherever there is room
 accept-again : (s : Scope) (a : List ℕ) (p q : Bool) (m n : ℕ) → adAnnounceNumber s a p m ≡ 0 → n < 256 → adAnnounceNumber s a q n ≡ 0
@@ -82,7 +82,7 @@ by-announcement P f (announce s a) p e =
     let own : record { scope = s; address = a } ≡ p = cc in
     subst (P (announce s a)) own (f (record { scope = s; address = a }))
 by-announcement P f (withdraw s a) p e = absurd (not-released e)
-by-announcement P f (elect t tag) p e = absurd (not-neither e)
+by-announcement P f (elect s tag) p e = absurd (not-neither e)
 
 holds : (p : AdAnnouncement) → circuitEffect (againCircuit p) ≡ hold p
 unfolding circuitEffect
@@ -112,13 +112,13 @@ pub refused-leaves : (l : List (List ℕ)) (c : CircuitCall) → (circuitNumber 
 unfolding circuitNumber circuitReply circuitsLeft adAnnounced adWithdrawn
 refused-leaves l (announce s a) n = rw (ne-eqb (adAnnounced l s (addressRow a) .number) 0 n)
 refused-leaves l (withdraw s a) n = rw (ne-eqb (adWithdrawn l s (addressRow a) .number) 0 n)
-refused-leaves l (elect t tag) n = refl
+refused-leaves l (elect s tag) n = refl
 
 pub call-kept : (l : List (List ℕ)) (c : CircuitCall) → CircuitsRight l → CircuitsRight (circuitsLeft l c)
 unfolding circuitsLeft
 call-kept l (announce s a) w = announced-kept l w s (addressRow a) (row-address a)
 call-kept l (withdraw s a) w = withdrawn-kept l w s (addressRow a)
-call-kept l (elect t tag) w = w
+call-kept l (elect s tag) w = w
 
 -- what the code answers is the list's call
 pub announce-changes : (l : List (List ℕ)) (s : Scope) (a : Address) (n : ℕ) (b : List ℕ) → AdTold (adAnnounced l s (addressRow a)) n b → CircuitChanges l (announce s a) n (circuitsIn b)
@@ -129,6 +129,6 @@ pub withdraw-changes : (l : List (List ℕ)) (s : Scope) (a : Address) (n : ℕ)
 unfolding circuitReply circuitsLeft
 withdraw-changes l s a n b o = (ap changeReply (sym (o .0)), sym (o .1))
 
-pub elect-replies : (l : List (List ℕ)) (t : Table) (tag : ℕ) {r : Answer} → r ≡ electOver (t .esi) (t .entries) l tag → circuitReply l (elect t tag) ≡ electReply r
+pub elect-replies : (l : List (List ℕ)) (s : Segment) (tag : ℕ) {r : Answer} → r ≡ electOver (s .settings) (s .table .esi) (s .table .entries) l tag → circuitReply l (elect s tag) ≡ electReply r
 unfolding circuitReply
-elect-replies l t tag e = ap electReply (sym e)
+elect-replies l s tag e = ap electReply (sym e)

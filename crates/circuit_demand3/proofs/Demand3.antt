@@ -3,8 +3,9 @@ use Prim.Native.Nat.{ℕ}
 use native.Mathlib.Omega.{arith}
 use mathlib.Core.Path.{_≡_, refl, ap, _∙_}
 use mathlib.Core.Bool.{cond}
-use mathlib.Core.List.{List, [], _∷_}
+use mathlib.Core.List.{List, [], _∷_, map, List·Permᴰ, Permᴰ·map}
 use mathlib.Core.Option.{Option}
+use lib.ListN.{length-map, replicate}
 use lib.Dec.{eqb}
 use Rattle.lists.specs.Lists.{Every}
 use Rattle.lists.proofs.Bools.{no-choice}
@@ -13,28 +14,28 @@ use Rattle.keyed.specs.Journal.{after, heard}
 use Rattle.keyed.proofs.Journal.{Kept, number-arranged}
 use Rattle.keyed.proofs.Replay as replay
 use Rattle.rows.specs.Rows.{rowKey}
-use Rattle.layout.specs.Table.{Table}
+use Rattle.segment_state.specs.State.{Segment}
 use Rattle.circuit_layout.specs.Circuits.{CircuitsRight, circuitWords}
-use Rattle.election.specs.declared.Answer.{Answer}
-use Rattle.election.specs.Election.{electOver}
+use Rattle.answers.specs.declared.Answer.{Answer}
+use Rattle.circuit_election.specs.Over.{electOver}
 use Rattle.circuit_demand3.specs.Calls.{CircuitCall, announce, withdraw, elect, CircuitReply, changeReply, electReply, circuitNumber, circuitReply, circuitsLeft}
-use Rattle.circuit_demand3.specs.Journal.{AdAnnouncement, routeFrom, routeKey, againCircuit, routesFrom, circuitCallNumber, circuitEffect, numberHeld, circuitJournalReply}
+use Rattle.circuit_demand3.specs.Journal.{AdAnnouncement, routeFrom, routeKey, againCircuit, routesFrom, circuitCallNumber, circuitEffect, numberHeld, stepHeld, circuitJournalReply, circuitsHeld}
 use Rattle.circuit_demand3.specs.Demand3.{circuitsAfter, CircuitFollows, CircuitsDemand3}
 use Rattle.circuit_demand3.proofs.Calls.{rules, state, announced-number, withdrawn-number, call-state, refused-leaves, call-kept}
 
 -- SINGLE CALLS
 -- the number of an election changes nothing that is held
-same-heard : (k : ℕ) (o : Option AdAnnouncement) (js : List AdAnnouncement) (c : CircuitCall)
+same-heard : (k : ℕ) (o : Option AdAnnouncement) (js : List AdAnnouncement) (g : ⊤) (c : CircuitCall)
     → cond (eqb (numberHeld js c) 0) (heard routeKey k (circuitEffect c) o) o
     ≡ cond (eqb (circuitNumber (circuitJournalReply js c)) 0) (heard routeKey k (circuitEffect c) o) o
 unfolding circuitNumber circuitJournalReply circuitEffect heard
-same-heard k o js (announce s a) = refl
-same-heard k o js (withdraw s a) = refl
-same-heard k o js (elect t tag) = no-choice (eqb (numberHeld js (elect t tag)) 0) (eqb (electOver (t .esi) (t .entries) (routesFrom js) tag .number) 0) o
+same-heard k o js g (announce s a) = refl
+same-heard k o js g (withdraw s a) = refl
+same-heard k o js g (elect s tag) = no-choice (eqb (numberHeld js (elect s tag)) 0) (eqb (electOver (s .settings) (s .table .esi) (s .table .entries) (routesFrom js) tag .number) 0) o
 
-own-number : (js : List AdAnnouncement) (p : AdAnnouncement) → circuitJournalReply js (againCircuit p) ≡ changeReply (numberHeld js (againCircuit p))
+own-number : (js : List AdAnnouncement) (g : ⊤) (p : AdAnnouncement) → circuitJournalReply js (againCircuit p) ≡ changeReply (numberHeld js (againCircuit p))
 unfolding circuitJournalReply
-own-number js p = refl
+own-number js g p = refl
 
 module _ (js : List AdAnnouncement) where
   agree : (c : CircuitCall) → Kept routeKey circuitCallNumber circuitEffect againCircuit 256 js → circuitReply (state (arranged routeKey js)) c ≡ circuitJournalReply js c
@@ -43,17 +44,46 @@ module _ (js : List AdAnnouncement) where
       ap changeReply (announced-number (arranged routeKey js) s a ∙ number-arranged routeKey circuitCallNumber circuitEffect againCircuit 256 js (announce s a) (k .distinct))
   agree (withdraw s a) k =
       ap changeReply (withdrawn-number (arranged routeKey js) s a ∙ number-arranged routeKey circuitCallNumber circuitEffect againCircuit 256 js (withdraw s a) (k .distinct))
-  agree (elect t tag) k = refl
+  agree (elect s tag) k = refl
 
--- EVERY LIST OF THEM: the state is the list of the routes itself
-abbrev itself : List (List ℕ) → List (List ℕ)
-itself l = l
+-- EVERY LIST OF THEM: the state is the list of the routes itself, and nothing is set
+abbrev routes : ⊤ → List (List ℕ) → List (List ℕ)
+routes g l = l
+
+abbrev held : List AdAnnouncement → ⊤ → List AdAnnouncement
+held js g = js
+
+abbrev unset : ⊤ → CircuitCall → ⊤
+unset g c = tt
+
+abbrev Any : ⊤ → Type 0
+Any g = ⊤
+
+abbrev none-set : ⊤ → List CircuitCall
+none-set g = []
+
+only-one : (g : ⊤) → tt ≡ g
+only-one g = refl
 
 whole : (cs : List CircuitCall)
-    → replay.Replayed routeKey circuitCallNumber circuitEffect againCircuit routeFrom rowKey itself circuitsLeft circuitReply circuitJournalReply circuitNumber changeReply cs
+    → replay.Replayed routeKey circuitCallNumber circuitEffect againCircuit routeFrom rowKey routes circuitsLeft circuitReply held stepHeld circuitJournalReply circuitNumber changeReply tt unset Any none-set cs
+unfolding Every
 whole =
-    replay.replayed routeKey circuitCallNumber circuitEffect againCircuit routeFrom rowKey itself circuitsLeft circuitReply circuitJournalReply circuitNumber changeReply 256
-    (record { rules = rules; same = λ p. refl; leaves = call-state; agrees = agree; heardSame = same-heard; own = own-number })
+    replay.replayed routeKey circuitCallNumber circuitEffect againCircuit routeFrom rowKey routes circuitsLeft circuitReply held stepHeld circuitJournalReply circuitNumber changeReply tt unset Any none-set 256
+    (record {
+      rules = rules;
+      same = λ p. refl;
+      leaves = λ g. call-state;
+      steps = λ js g c. refl;
+      agrees = λ g. agree;
+      heardSame = same-heard;
+      own = own-number;
+      quiet = λ g p. refl;
+      rightFirst = tt;
+      rightSet = λ g c r. tt;
+      setters = λ g r. tt;
+      restored = λ g r l h. refl;
+    })
 
 none-right : CircuitsRight []
 unfolding Rising Every
@@ -69,21 +99,22 @@ pub demand3 : (cs : List CircuitCall) → CircuitsDemand3 cs
 unfolding circuitsLeft circuitJournalReply
 demand3 cs =
     let w = whole cs in
+    let orders = λ (order : List AdAnnouncement) (h : List·Permᴰ order (circuitsHeld cs)). Permᴰ·map againCircuit h in
     record {
       told = w .told;
-      elections = λ t tag. refl;
+      elections = λ s tag. refl;
       refusals = refused-leaves (circuitsAfter cs);
       single = w .distinct;
       last = w .last;
       sound = calls-kept [] cs none-right;
-      accepted = w .accepted;
-      state = w .state;
-      words = λ order h. ap circuitWords (w .state order h);
+      accepted = λ order h. w .accepted (map againCircuit order) (orders order h) ∙ ap (λ (n : ℕ). replicate n (changeReply 0)) (length-map order againCircuit);
+      state = λ order h. w .state (map againCircuit order) (orders order h);
+      words = λ order h. ap circuitWords (w .state (map againCircuit order) (orders order h));
       rising = w .rising;
       all = w .all;
       only = w .only;
-      answer = λ t tag. w .replied (elect t tag);
-      answerAgain = λ order h t tag. w .repliedAgain order h (elect t tag);
+      answer = λ s tag. w .replied (elect s tag);
+      answerAgain = λ order h s tag. w .repliedAgain (map againCircuit order) (orders order h) (elect s tag);
     }
 
 -- ONE CALL MORE at the end of a list
@@ -94,6 +125,6 @@ pub starts : (l : List (List ℕ)) → l ≡ [] → l ≡ circuitsAfter []
 unfolding after
 starts l e = e
 
-pub elect-follows : (l : List (List ℕ)) (t : Table) (tag : ℕ) {r : Answer} → circuitReply l (elect t tag) ≡ electReply r → CircuitFollows l (elect t tag) (electReply r) l
+pub elect-follows : (l : List (List ℕ)) (s : Segment) (tag : ℕ) {r : Answer} → circuitReply l (elect s tag) ≡ electReply r → CircuitFollows l (elect s tag) (electReply r) l
 unfolding circuitsLeft
-elect-follows l t tag e = follows l (elect t tag) e refl
+elect-follows l s tag e = follows l (elect s tag) e refl

@@ -1,7 +1,7 @@
 -- The calls of a list of calls upon the table of A-D routes, with their arguments besides that table (document 02, M-102, demand 3).
 --   announce s a      == the announcement of the route of the scope s and the address a
 --   withdraw s a      == its withdrawal
---   elect t tag       == the election over both tables for the tag, beside the route table t
+--   elect s tag       == the election over both tables for the tag, beside the state s of a segment: its route table and its settings
 --   changeReply, electReply == a reply: the number of an announcement or a withdrawal, the whole answer of an election
 --   circuitReply l c  == what the call c answers, where the routes l stand
 --   circuitNumber r   == the number of the reply r: 0, or a refusal
@@ -12,16 +12,16 @@ use mathlib.Core.Path.{_≡_}
 use mathlib.Core.List.{List}
 use Rattle.address.specs.declared.Address.{Address}
 use Rattle.address.specs.Address.{addressRow}
-use Rattle.layout.specs.Table.{Table}
+use Rattle.segment_state.specs.State.{Segment}
 use Rattle.circuit_layout.specs.declared.Scope.{Scope}
 use Rattle.circuits.specs.Changes.{adAnnounced, adWithdrawn}
-use Rattle.election.specs.declared.Answer.{Answer}
-use Rattle.election.specs.Election.{electOver}
+use Rattle.answers.specs.declared.Answer.{Answer}
+use Rattle.circuit_election.specs.Over.{electOver}
 
 pub data CircuitCall : Type 0 where
   announce : Scope → Address → CircuitCall
   withdraw : Scope → Address → CircuitCall
-  elect : Table → ℕ → CircuitCall
+  elect : Segment → ℕ → CircuitCall
 
 pub data CircuitReply : Type 0 where
   changeReply : ℕ → CircuitReply
@@ -34,12 +34,12 @@ circuitNumber (electReply a) = a .number
 unfoldable pub circuitReply : List (List ℕ) → CircuitCall → CircuitReply
 circuitReply l (announce s a) = changeReply (adAnnounced l s (addressRow a) .number)
 circuitReply l (withdraw s a) = changeReply (adWithdrawn l s (addressRow a) .number)
-circuitReply l (elect t tag) = electReply (electOver (t .esi) (t .entries) l tag)
+circuitReply l (elect s tag) = electReply (electOver (s .settings) (s .table .esi) (s .table .entries) l tag)
 
 unfoldable pub circuitsLeft : List (List ℕ) → CircuitCall → List (List ℕ)
 circuitsLeft l (announce s a) = adAnnounced l s (addressRow a) .routes
 circuitsLeft l (withdraw s a) = adWithdrawn l s (addressRow a) .routes
-circuitsLeft l (elect t tag) = l
+circuitsLeft l (elect s tag) = l
 
 -- ties the code's answers to the list's calls
 abbrev pub CircuitChanges : List (List ℕ) → CircuitCall → ℕ → List (List ℕ) → Type 0

@@ -11,9 +11,9 @@ use lib.ListN.{length, replicate}
 use Rattle.keyed.specs.Keyed.{Rising, Distinct}
 use Rattle.keyed.specs.Journal.{after, answers, heldAt, lastHeld}
 use Rattle.rows.specs.Rows.{rowKey}
-use Rattle.layout.specs.Table.{Table}
+use Rattle.segment_state.specs.State.{Segment}
 use Rattle.circuit_layout.specs.Circuits.{CircuitsRight, circuitWords}
-use Rattle.election.specs.Election.{electOver}
+use Rattle.circuit_election.specs.Over.{electOver}
 use Rattle.circuit_demand3.specs.Calls.{CircuitCall, elect, CircuitReply, changeReply, electReply, circuitNumber, circuitReply, circuitsLeft}
 use Rattle.circuit_demand3.specs.Journal.{AdAnnouncement, routeFrom, routeKey, againCircuit, routesFrom, circuitEffect, stepHeld, circuitJournalReply, circuitsHeld}
 
@@ -32,7 +32,7 @@ pub record CircuitsDemand3 (cs : List CircuitCall) : Type 0 where
   -- call by call the reply is the journal's: so an announcement or a withdrawal is accepted exactly if the journal accepts it
   pub told : circuitReplies cs ≡ answers circuitJournalReply stepHeld [] cs
   -- elections and refused calls leave the routes as they got them. Of elections this holds by definition: the code gets both tables by shared references
-  pub elections : (t : Table) (tag : ℕ) → circuitsLeft (circuitsAfter cs) (elect t tag) ≡ circuitsAfter cs
+  pub elections : (s : Segment) (tag : ℕ) → circuitsLeft (circuitsAfter cs) (elect s tag) ≡ circuitsAfter cs
   pub refusals : (c : CircuitCall) → (circuitNumber (circuitReply (circuitsAfter cs) c) ≡ 0 → ⊥) → circuitsLeft (circuitsAfter cs) c ≡ circuitsAfter cs
   -- one announcement is held for each kind, tag and address
   pub single : Distinct routeKey (circuitsHeld cs)
@@ -49,8 +49,9 @@ pub record CircuitsDemand3 (cs : List CircuitCall) : Type 0 where
   pub rising : Rising rowKey 0 (routesFrom (circuitsHeld cs))
   pub all : List·Permᴰ (routesFrom (circuitsHeld cs)) (map routeFrom (circuitsHeld cs))
   pub only : (l : List (List ℕ)) → Rising rowKey 0 l → List·Permᴰ l (map routeFrom (circuitsHeld cs)) → l ≡ routesFrom (circuitsHeld cs)
-  -- beside every route table and for every tag the whole answer of the election over both tables, at the end and after what is held was announced alone, is
+  -- beside every route table with its settings and for every tag the whole answer of the election over both tables, at the end and after what is held was announced alone, is
   -- the one for these routes
-  pub answer : (t : Table) (tag : ℕ) → circuitReply (circuitsAfter cs) (elect t tag) ≡ electReply (electOver (t .esi) (t .entries) (routesFrom (circuitsHeld cs)) tag)
-  pub answerAgain : (order : List AdAnnouncement) → List·Permᴰ order (circuitsHeld cs) → (t : Table) (tag : ℕ)
-      → circuitReply (circuitsAfter (map againCircuit order)) (elect t tag) ≡ electReply (electOver (t .esi) (t .entries) (routesFrom (circuitsHeld cs)) tag)
+  pub answer : (s : Segment) (tag : ℕ)
+      → circuitReply (circuitsAfter cs) (elect s tag) ≡ electReply (electOver (s .settings) (s .table .esi) (s .table .entries) (routesFrom (circuitsHeld cs)) tag)
+  pub answerAgain : (order : List AdAnnouncement) → List·Permᴰ order (circuitsHeld cs) → (s : Segment) (tag : ℕ)
+      → circuitReply (circuitsAfter (map againCircuit order)) (elect s tag) ≡ electReply (electOver (s .settings) (s .table .esi) (s .table .entries) (routesFrom (circuitsHeld cs)) tag)

@@ -21,7 +21,7 @@ use Rattle.keyed.specs.Journal.{Effect, hold, release, neither, after, journalN
 use Rattle.circuit_layout.specs.declared.Scope.{Scope}
 use Rattle.circuit_layout.specs.Circuits.{adRow}
 use Rattle.circuits.specs.Changes.{adAnnounceNumber, adWithdrawNumber}
-use Rattle.election.specs.Election.{electOver}
+use Rattle.circuit_election.specs.Over.{electOver}
 use Rattle.circuit_demand3.specs.Calls.{CircuitCall, announce, withdraw, elect, CircuitReply, changeReply, electReply}
 
 pub record AdAnnouncement : Type 0 where
@@ -44,12 +44,12 @@ routesFrom js = map routeFrom (arranged routeKey js)
 unfoldable pub circuitCallNumber : CircuitCall → (ℕ → Bool) → ℕ → ℕ
 circuitCallNumber (announce s a) present n = adAnnounceNumber s (addressRow a) (present (rowKey (adRow s (addressRow a)))) n
 circuitCallNumber (withdraw s a) present n = adWithdrawNumber s (addressRow a) (present (rowKey (adRow s (addressRow a))))
-circuitCallNumber (elect t tag) present n = 0
+circuitCallNumber (elect s tag) present n = 0
 
 unfoldable pub circuitEffect : CircuitCall → Effect AdAnnouncement
 circuitEffect (announce s a) = hold (record { scope = s; address = a })
 circuitEffect (withdraw s a) = release (rowKey (adRow s (addressRow a)))
-circuitEffect (elect t tag) = neither
+circuitEffect (elect s tag) = neither
 
 abbrev pub numberHeld : List AdAnnouncement → CircuitCall → ℕ
 numberHeld = journalNumber routeKey circuitCallNumber circuitEffect
@@ -61,7 +61,7 @@ stepHeld = journalStep routeKey circuitCallNumber circuitEffect
 unfoldable pub circuitJournalReply : List AdAnnouncement → CircuitCall → CircuitReply
 circuitJournalReply js (announce s a) = changeReply (numberHeld js (announce s a))
 circuitJournalReply js (withdraw s a) = changeReply (numberHeld js (withdraw s a))
-circuitJournalReply js (elect t tag) = electReply (electOver (t .esi) (t .entries) (routesFrom js) tag)
+circuitJournalReply js (elect s tag) = electReply (electOver (s .settings) (s .table .esi) (s .table .entries) (routesFrom js) tag)
 
 -- at first nothing is held
 abbrev pub circuitsHeld : List CircuitCall → List AdAnnouncement

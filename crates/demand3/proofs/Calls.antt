@@ -20,11 +20,14 @@ use Rattle.layout.specs.Table.{Entry, Table, entryKey, tableOf, WellFormed}
 use Rattle.table.specs.Table.{announceNumber, withdrawNumber, announced, withdrawn, Told}
 use Rattle.layout.specs.Words.{tableIn}
 use Rattle.table.proofs.Calls.{announced-kept, withdrawn-kept, passed-route, passed-esi, passed-list, passed-room}
-use Rattle.election.specs.declared.Answer.{Answer}
-use Rattle.election.specs.Election.{electOf}
+use Rattle.settings.specs.Settings.{Settings, numbersSet, SettingsRight, settingsIn, SettingsTold}
+use Rattle.settings.proofs.Laws.{numbers-kept, numbers-refused}
+use Rattle.segment_state.specs.State.{Segment}
+use Rattle.answers.specs.declared.Answer.{Answer}
+use Rattle.election.specs.Queries.{Query, electWith}
 use Rattle.returning.specs.declared.Sent.{Sent}
 use Rattle.returning.specs.Returning.{returningOf}
-use Rattle.demand3.specs.Calls.{Call, announce, withdraw, elect, returning, changeReply, electReply, returningReply, numberIn, replyTo, leaves, Changes}
+use Rattle.demand3.specs.Calls.{Call, announce, withdraw, setNumbers, elect, returning, changeReply, electReply, returningReply, numberIn, replyTo, tableLeft, settingsLeft, leaves, Changes}
 use Rattle.demand3.specs.Journal.{Announcement, originatorKey, again, entryFrom, callNumber, callEffect, numberFor}
 
 -- THE TABLE OF ANNOUNCEMENTS that are listed in rising order
@@ -55,8 +58,8 @@ module _ (i : List ℕ) where
         go true = refl
         go false = refl
 
-    pub call-state : (c : Call) → leaves (state l) c ≡ state (cond (eqb (numberFor i l c) 0) (placed originatorKey (callEffect c) l) l)
-    unfolding leaves announced withdrawn callEffect callNumber journalNumber placed
+    pub call-state : (c : Call) → tableLeft (state l) c ≡ state (cond (eqb (numberFor i l c) 0) (placed originatorKey (callEffect c) l) l)
+    unfolding tableLeft announced withdrawn callEffect callNumber journalNumber placed
     call-state (announce r c) =
         let p : Announcement = record { route = r; communities = c } in
         chosen (announced (state l) r c .number) (numberFor i l (announce r c)) (insert entryKey (entryFrom p) (map entryFrom l)) (insert originatorKey p l)
@@ -67,7 +70,8 @@ module _ (i : List ℕ) where
         chosen (withdrawn (state l) a .number) (numberFor i l (withdraw a)) (remove entryKey k (map entryFrom l)) (remove originatorKey k l)
         (withdrawn-number a)
         (sym (map-remove entryFrom originatorKey entryKey (λ x. refl) k l))
-    call-state (elect tag ready) = refl
+    call-state (setNumbers a b) = refl
+    call-state (elect q tag ready) = refl
     call-state (returning a alg p d) = refl
 
 -- THE RULES: a new address is held only where there is room, and an announcement that was accepted once is accepted wherever there is room
@@ -89,7 +93,8 @@ by-announcement P f (announce r c) p e =
     let own : record { route = r; communities = c } ≡ p = cc in
     subst (P (announce r c)) own (f (record { route = r; communities = c }))
 by-announcement P f (withdraw a) p e = absurd (not-released e)
-by-announcement P f (elect tag ready) p e = absurd (not-neither e)
+by-announcement P f (setNumbers a b) p e = absurd (not-neither e)
+by-announcement P f (elect q tag ready) p e = absurd (not-neither e)
 by-announcement P f (returning a alg v d) p e = absurd (not-neither e)
 
 module _ (i : List ℕ) where
@@ -116,35 +121,56 @@ module _ (i : List ℕ) where
         by-announcement (λ d q. callNumber i d u m ≡ 0 → n < 64 → callNumber i (again q) v n ≡ 0) (λ q. repeats q u v m n) c p e;
   }
 
--- CALLS ON ANY TABLE
-pub refused-leaves : (t : Table) (c : Call) → (numberIn (replyTo t c) ≡ 0 → ⊥) → leaves t c ≡ t
-unfolding numberIn replyTo leaves announced withdrawn
-refused-leaves t (announce r c) n = rw (ne-eqb (announced t r c .number) 0 n)
-refused-leaves t (withdraw a) n = rw (ne-eqb (withdrawn t a .number) 0 n)
-refused-leaves t (elect tag ready) n = refl
-refused-leaves t (returning a alg p d) n = refl
+-- CALLS ON ANY STATE
+same-state : (s : Segment) {t : Table} {g : Settings} → t ≡ s .table → g ≡ s .settings → record { table = t; settings = g } ≡ s
+same-state s p q = rw (p, q)
 
-pub call-kept : (t : Table) (c : Call) → WellFormed t → WellFormed (leaves t c)
-unfolding leaves
-call-kept t (announce r c) w = announced-kept t w r c
-call-kept t (withdraw a) w = withdrawn-kept t w a
-call-kept t (elect tag ready) w = w
-call-kept t (returning a alg p d) w = w
+pub refused-leaves : (s : Segment) (c : Call) → (numberIn (replyTo s c) ≡ 0 → ⊥) → leaves s c ≡ s
+unfolding numberIn replyTo tableLeft settingsLeft announced withdrawn
+refused-leaves s (announce r c) n = same-state s (rw (ne-eqb (announced (s .table) r c .number) 0 n)) refl
+refused-leaves s (withdraw a) n = same-state s (rw (ne-eqb (withdrawn (s .table) a .number) 0 n)) refl
+refused-leaves s (setNumbers a b) n = same-state s refl (numbers-refused (s .settings) a b n)
+refused-leaves s (elect q tag ready) n = refl
+refused-leaves s (returning a alg p d) n = refl
 
--- what the code answers is the list's call
-pub announce-changes : (t : Table) (r c : List ℕ) (n p : ℕ) (b : List ℕ) → Told (announced t r c) n p b → Changes t (announce r c) n (tableIn b)
-unfolding replyTo leaves
-announce-changes t r c n p b o = (ap changeReply (sym (o .0)), sym (o .2))
+pub table-kept : (t : Table) (c : Call) → WellFormed t → WellFormed (tableLeft t c)
+unfolding tableLeft
+table-kept t (announce r c) w = announced-kept t w r c
+table-kept t (withdraw a) w = withdrawn-kept t w a
+table-kept t (setNumbers a b) w = w
+table-kept t (elect q tag ready) w = w
+table-kept t (returning a alg p d) w = w
 
-pub withdraw-changes : (t : Table) (a : List ℕ) (n p : ℕ) (b : List ℕ) → Told (withdrawn t a) n p b → Changes t (withdraw a) n (tableIn b)
-unfolding replyTo leaves
-withdraw-changes t a n p b o = (ap changeReply (sym (o .0)), sym (o .2))
+pub settings-kept : (g : Settings) (c : Call) → SettingsRight g → SettingsRight (settingsLeft g c)
+unfolding settingsLeft
+settings-kept g (announce r c) w = w
+settings-kept g (withdraw a) w = w
+settings-kept g (setNumbers a b) w = numbers-kept g a b w
+settings-kept g (elect q tag ready) w = w
+settings-kept g (returning a alg p d) w = w
+
+-- what the code answers is the list's call: it changes the table, or the settings, and leaves the other
+pub announce-changes : (s : Segment) (r c : List ℕ) (n p : ℕ) (b : List ℕ) → Told (announced (s .table) r c) n p b
+    → Changes s (announce r c) n (record { table = tableIn b; settings = s .settings })
+unfolding replyTo tableLeft settingsLeft
+announce-changes s r c n p b o = (ap changeReply (sym (o .0)), rw (o .2))
+
+pub withdraw-changes : (s : Segment) (a : List ℕ) (n p : ℕ) (b : List ℕ) → Told (withdrawn (s .table) a) n p b
+    → Changes s (withdraw a) n (record { table = tableIn b; settings = s .settings })
+unfolding replyTo tableLeft settingsLeft
+withdraw-changes s a n p b o = (ap changeReply (sym (o .0)), rw (o .2))
+
+pub numbers-changes : (s : Segment) (a b n : ℕ) (w : List ℕ) → SettingsTold (numbersSet (s .settings) a b) n w
+    → Changes s (setNumbers a b) n (record { table = s .table; settings = settingsIn w })
+unfolding replyTo tableLeft settingsLeft
+numbers-changes s a b n w o = (ap changeReply (sym (o .0)), rw (o .1))
 
 -- what the code answers to an election and to a returning router is the list's reply
-pub elect-replies : (t : Table) (tag : ℕ) (ready : List (List ℕ)) {r : Answer} → r ≡ electOf (t .esi) (t .entries) tag ready → replyTo t (elect tag ready) ≡ electReply r
+pub elect-replies : (s : Segment) (q : Query) (tag : ℕ) (ready : List (List ℕ)) {r : Answer} → r ≡ electWith (s .settings) q (s .table .esi) (s .table .entries) tag ready
+    → replyTo s (elect q tag ready) ≡ electReply r
 unfolding replyTo
-elect-replies t tag ready e = ap electReply (sym e)
+elect-replies s q tag ready e = ap electReply (sym e)
 
-pub returning-replies : (t : Table) (a : List ℕ) (alg p : ℕ) (d : Bool) {r : Sent} → r ≡ returningOf (t .entries) a alg p d → replyTo t (returning a alg p d) ≡ returningReply r
+pub returning-replies : (s : Segment) (a : List ℕ) (alg p : ℕ) (d : Bool) {r : Sent} → r ≡ returningOf (s .table .entries) a alg p d → replyTo s (returning a alg p d) ≡ returningReply r
 unfolding replyTo
-returning-replies t a alg p d e = ap returningReply (sym e)
+returning-replies s a alg p d e = ap returningReply (sym e)

@@ -1,102 +1,145 @@
--- Demand 3 holds of every identifier and every list of calls: the general theorem on journals, at a segment's calls and a capacity of 64.
--- Assumes nothing.
+-- Demand 3 holds of every identifier and every list of calls: the general theorem on journals, at a segment's calls and a capacity of 64, with its settings for the
+-- register. Assumes nothing.
 use Prim.Native.Nat.{ℕ}
-use mathlib.Core.Path.{_≡_, refl, ap, _∙_}
-use mathlib.Core.Bool.{Bool, cond}
-use mathlib.Core.List.{List, [], _∷_}
+use native.Mathlib.Omega.{arith}
+use mathlib.Core.Path.{_≡_, refl, ap, ap₂, _∙_, sym}
+use mathlib.Core.Bool.{Bool, true, false, cond}
+use mathlib.Core.List.{List, [], _∷_, map, List·Permᴰ}
 use mathlib.Core.Option.{Option}
 use lib.Dec.{eqb}
+use borrow.Author.Tests.{ne-eqb}
+use Rattle.lists.specs.Lists.{Every}
 use Rattle.lists.proofs.Bools.{no-choice}
 use Rattle.keyed.specs.Keyed.{arranged}
-use Rattle.keyed.specs.Journal.{after, heard}
+use Rattle.keyed.specs.Journal.{after, answers, neither, heard, journalStep}
 use Rattle.keyed.proofs.Journal.{Kept, number-arranged}
 use Rattle.keyed.proofs.Replay as replay
-use Rattle.layout.specs.Table.{Table, entryKey, tableOf, WellFormed, ownerOf}
-use Rattle.table.specs.Table.{freshTable, Told}
-use Rattle.layout.specs.Words.{wordsOf, tableIn}
+use Rattle.layout.specs.Table.{Entry, Table, entryKey, tableOf, WellFormed, ownerOf}
+use Rattle.table.specs.Table.{freshTable}
 use Rattle.table.proofs.Calls.{fresh-kept}
-use Rattle.election.specs.declared.Answer.{Answer}
-use Rattle.election.specs.Election.{electOf}
+use Rattle.settings.specs.Settings.{Settings, noneSet, numbersSet, SettingsRight}
+use Rattle.settings.proofs.Laws.{none-right}
+use Rattle.segment_state.specs.State.{Segment, freshSegment, segmentWords}
+use Rattle.answers.specs.declared.Answer.{Answer}
+use Rattle.election.specs.Queries.{Query, electWith}
 use Rattle.returning.specs.declared.Sent.{Sent}
 use Rattle.returning.specs.Returning.{returningOf}
-use Rattle.demand3.specs.Calls.{Call, announce, withdraw, elect, returning, Reply, changeReply, electReply, returningReply, numberIn, replyTo, leaves}
-use Rattle.demand3.specs.Journal.{Announcement, originatorKey, again, entryFrom, entriesFrom, callNumber, callEffect, numberFor, journalReply, held}
-use Rattle.demand3.specs.Demand3.{tableAfter, Follows, Demand3}
-use Rattle.demand3.proofs.Calls.{rules, state, announced-number, withdrawn-number, call-state, refused-leaves, call-kept}
+use Rattle.demand3.specs.Calls.{Call, announce, withdraw, setNumbers, elect, returning, Reply, changeReply, electReply, returningReply, numberIn, replyTo, tableLeft, settingsLeft, leaves}
+use Rattle.demand3.specs.Journal.{Announcement, originatorKey, again, entryFrom, entriesFrom, callNumber, callEffect, numberFor, Journal, journalOf, step, journalReply, settingsSet, setAgain, lastSet}
+use Rattle.demand3.specs.Demand3.{replies, segmentAfter, Follows, Demand3}
+use Rattle.demand3.proofs.Calls.{rules, state, announced-number, withdrawn-number, call-state, refused-leaves, table-kept, settings-kept}
+use Rattle.demand3.proofs.Settings.{again-accepted, again-restores, last-numbers}
 
 -- SINGLE CALLS. i is the journal's identifier
 module _ (i : List ℕ) where
-  -- the number of an election or of a call for a returning router changes nothing that is held
-  same-heard : (k : ℕ) (o : Option Announcement) (js : List Announcement) (c : Call)
+  abbrev made : Settings → List Entry → Segment
+  made g l = record { table = tableOf i l; settings = g }
+
+  -- the number of a call that neither holds nor releases changes nothing that is held
+  same-heard : (k : ℕ) (o : Option Announcement) (js : List Announcement) (g : Settings) (c : Call)
       → cond (eqb (numberFor i js c) 0) (heard originatorKey k (callEffect c) o) o
-      ≡ cond (eqb (numberIn (journalReply i js c)) 0) (heard originatorKey k (callEffect c) o) o
+      ≡ cond (eqb (numberIn (journalReply i (journalOf js g) c)) 0) (heard originatorKey k (callEffect c) o) o
   unfolding numberIn journalReply callEffect heard
-  same-heard k o js (announce r c) = refl
-  same-heard k o js (withdraw a) = refl
-  same-heard k o js (elect tag ready) = no-choice (eqb (numberFor i js (elect tag ready)) 0) (eqb (electOf i (entriesFrom js) tag ready .number) 0) o
-  same-heard k o js (returning a alg p d) = no-choice (eqb (numberFor i js (returning a alg p d)) 0) (eqb (returningOf (entriesFrom js) a alg p d .number) 0) o
+  same-heard k o js g (announce r c) = refl
+  same-heard k o js g (withdraw a) = refl
+  same-heard k o js g (setNumbers a b) = no-choice (eqb (numberFor i js (setNumbers a b)) 0) (eqb (numbersSet g a b .number) 0) o
+  same-heard k o js g (elect q tag ready) = no-choice (eqb (numberFor i js (elect q tag ready)) 0) (eqb (electWith g q i (entriesFrom js) tag ready .number) 0) o
+  same-heard k o js g (returning a alg p d) = no-choice (eqb (numberFor i js (returning a alg p d)) 0) (eqb (returningOf (entriesFrom js) a alg p d .number) 0) o
 
-  own-number : (js : List Announcement) (p : Announcement) → journalReply i js (again p) ≡ changeReply (numberFor i js (again p))
+  own-number : (js : List Announcement) (g : Settings) (p : Announcement) → journalReply i (journalOf js g) (again p) ≡ changeReply (numberFor i js (again p))
   unfolding journalReply
-  own-number js p = refl
+  own-number js g p = refl
 
-  module _ (js : List Announcement) where
-    agree : (c : Call) → Kept originatorKey (callNumber i) callEffect again 64 js → replyTo (state i (arranged originatorKey js)) c ≡ journalReply i js c
-    unfolding replyTo journalReply
-    agree (announce r c) k =
-        ap changeReply (announced-number i (arranged originatorKey js) r c ∙ number-arranged originatorKey (callNumber i) callEffect again 64 js (announce r c) (k .distinct))
-    agree (withdraw a) k =
-        ap changeReply (withdrawn-number i (arranged originatorKey js) a ∙ number-arranged originatorKey (callNumber i) callEffect again 64 js (withdraw a) (k .distinct))
-    agree (elect tag ready) k = refl
-    agree (returning a alg p d) k = refl
+  agree : (g : Settings) (js : List Announcement) (c : Call) → Kept originatorKey (callNumber i) callEffect again 64 js
+      → replyTo (made g (map entryFrom (arranged originatorKey js))) c ≡ journalReply i (journalOf js g) c
+  unfolding replyTo journalReply
+  agree g js (announce r c) k =
+      ap changeReply (announced-number i (arranged originatorKey js) r c ∙ number-arranged originatorKey (callNumber i) callEffect again 64 js (announce r c) (k .distinct))
+  agree g js (withdraw a) k =
+      ap changeReply (withdrawn-number i (arranged originatorKey js) a ∙ number-arranged originatorKey (callNumber i) callEffect again 64 js (withdraw a) (k .distinct))
+  agree g js (setNumbers a b) k = refl
+  agree g js (elect q tag ready) k = refl
+  agree g js (returning a alg p d) k = refl
+
+  quiet : (g : Settings) (p : Announcement) → settingsLeft g (again p) ≡ g
+  unfolding settingsLeft
+  quiet g p = refl
 
   -- EVERY LIST OF THEM
-  whole : (cs : List Call) → replay.Replayed originatorKey (callNumber i) callEffect again entryFrom entryKey (tableOf i) leaves replyTo (journalReply i) numberIn changeReply cs
+  whole : (cs : List Call)
+      → replay.Replayed originatorKey (callNumber i) callEffect again entryFrom entryKey made leaves replyTo journalOf (step i) (journalReply i) numberIn changeReply noneSet settingsLeft SettingsRight setAgain cs
   whole =
-      replay.replayed originatorKey (callNumber i) callEffect again entryFrom entryKey (tableOf i) leaves replyTo (journalReply i) numberIn changeReply 64
-      (record { rules = rules i; same = λ p. refl; leaves = call-state i; agrees = agree; heardSame = same-heard; own = own-number })
+      replay.replayed originatorKey (callNumber i) callEffect again entryFrom entryKey made leaves replyTo journalOf (step i) (journalReply i) numberIn changeReply noneSet settingsLeft SettingsRight setAgain 64
+      (record {
+        rules = rules i;
+        same = λ p. refl;
+        leaves = λ g l c. ap (λ (t : Table). record { table = t; settings = settingsLeft g c }) (call-state i l c);
+        steps = λ js g c. refl;
+        agrees = agree;
+        heardSame = same-heard;
+        own = own-number;
+        quiet = quiet;
+        rightFirst = none-right;
+        rightSet = settings-kept;
+        setters = λ g r. again-accepted i g r;
+        restored = again-restores;
+      })
 
-calls-kept : (t : Table) (cs : List Call) → WellFormed t → WellFormed (after leaves t cs)
+-- the two parts of a state go each their own way
+after-parts : (s : Segment) (cs : List Call) → after leaves s cs ≡ record { table = after tableLeft (s .table) cs; settings = after settingsLeft (s .settings) cs }
+unfolding after
+after-parts s [] = refl
+after-parts s (c ∷ cs) = after-parts (leaves s c) cs
+
+calls-kept : (t : Table) (cs : List Call) → WellFormed t → WellFormed (after tableLeft t cs)
 unfolding after
 calls-kept t [] w = w
-calls-kept t (c ∷ cs) w = calls-kept (leaves t c) cs (call-kept t c w)
+calls-kept t (c ∷ cs) w = calls-kept (tableLeft t c) cs (table-kept t c w)
 
--- THE WHOLE: the fresh table is the one of nothing held
+calls-right : (g : Settings) (cs : List Call) → SettingsRight g → SettingsRight (after settingsLeft g cs)
+unfolding after
+calls-right g [] w = w
+calls-right g (c ∷ cs) w = calls-right (settingsLeft g c) cs (settings-kept g c w)
+
+-- THE WHOLE: the fresh state is the one of nothing held and none set
 pub demand3 : (i : List ℕ) (cs : List Call) → Demand3 i cs
-unfolding freshTable leaves journalReply
+unfolding freshTable tableLeft settingsLeft journalReply
 demand3 i cs =
     let w = whole (ownerOf i) cs in
     record {
       told = w .told;
-      elections = λ tag ready. refl;
+      elections = λ q tag ready. refl;
       returnings = λ a alg p d. refl;
-      refusals = refused-leaves (tableAfter i cs);
+      refusals = refused-leaves (segmentAfter i cs);
       single = w .distinct;
       last = w .last;
-      sound = calls-kept (freshTable i .table) cs (fresh-kept i);
+      numbers = ap (λ (s : Segment). s .settings) (after-parts (freshSegment i) cs);
+      lastNumbers = last-numbers (freshSegment i) cs;
+      sound = rw (after-parts (freshSegment i) cs) (calls-kept (freshTable i .table) cs (fresh-kept i));
+      settings = rw (after-parts (freshSegment i) cs) (calls-right noneSet cs none-right);
       accepted = w .accepted;
       state = w .state;
-      words = λ order h. ap wordsOf (w .state order h);
+      words = λ order h. ap segmentWords (w .state order h);
       rising = w .rising;
       all = w .all;
       only = w .only;
-      answer = λ tag ready. w .replied (elect tag ready);
-      answerAgain = λ order h tag ready. w .repliedAgain order h (elect tag ready);
+      answer = λ q tag ready. w .replied (elect q tag ready);
+      answerAgain = λ order h q tag ready. w .repliedAgain order h (elect q tag ready);
       preference = λ a alg p d. w .replied (returning a alg p d);
     }
 
 -- ONE CALL MORE at the end of a list
-pub follows : (t : Table) (c : Call) {r : Reply} {u : Table} → replyTo t c ≡ r → leaves t c ≡ u → Follows t c r u
-follows t c {r} {u} p q i cs e = replay.follows replyTo leaves (freshTable i .table) t u c r p q cs e
+pub follows : (s : Segment) (c : Call) {r : Reply} {u : Segment} → replyTo s c ≡ r → leaves s c ≡ u → Follows s c r u
+follows s c {r} {u} p q i cs e = replay.follows replyTo leaves (freshSegment i) s u c r p q cs e
 
-pub starts : (i : List ℕ) (n p : ℕ) (b : List ℕ) → Told (freshTable i) n p b → tableIn b ≡ tableAfter i []
+pub starts : (i : List ℕ) {s : Segment} → s ≡ freshSegment i → s ≡ segmentAfter i []
 unfolding after
-starts i n p b o = o .2
+starts i e = e
 
-pub elect-follows : (t : Table) (tag : ℕ) (ready : List (List ℕ)) {r : Answer} → replyTo t (elect tag ready) ≡ electReply r → Follows t (elect tag ready) (electReply r) t
-unfolding leaves
-elect-follows t tag ready e = follows t (elect tag ready) e refl
+pub elect-follows : (s : Segment) (q : Query) (tag : ℕ) (ready : List (List ℕ)) {r : Answer} → replyTo s (elect q tag ready) ≡ electReply r → Follows s (elect q tag ready) (electReply r) s
+unfolding tableLeft settingsLeft
+elect-follows s q tag ready e = follows s (elect q tag ready) e refl
 
-pub returning-follows : (t : Table) (a : List ℕ) (alg p : ℕ) (d : Bool) {r : Sent} → replyTo t (returning a alg p d) ≡ returningReply r → Follows t (returning a alg p d) (returningReply r) t
-unfolding leaves
-returning-follows t a alg p d e = follows t (returning a alg p d) e refl
+pub returning-follows : (s : Segment) (a : List ℕ) (alg p : ℕ) (d : Bool) {r : Sent} → replyTo s (returning a alg p d) ≡ returningReply r → Follows s (returning a alg p d) (returningReply r) s
+unfolding tableLeft settingsLeft
+returning-follows s a alg p d e = follows s (returning a alg p d) e refl

@@ -1,3 +1,4 @@
 pub mod Calls
+mod Settings
 pub mod Demand3
 pub mod Values

@@ -43,7 +43,8 @@ pub record Demand3 (i : List ℕ) (cs : List Call) : Type 0 where
   pub single : OnePerAddress (held i cs)
   -- an address is held exactly if its last accepted announcement or withdrawal, by the segment's own replies, was an announcement: it holds that one
   pub last : (k : ℕ) → heldAt originatorKey k (held i cs) ≡ lastHeld originatorKey callEffect k none cs (map numberIn (replies i cs))
-  -- the numbers set are those last accepted, by the segment's own replies, if any
+  -- the numbers set are the journal's, those last accepted, by the segment's own replies, if any
+  pub numbers : segmentAfter i cs .settings ≡ settingsSet cs
   pub lastNumbers : settingsSet cs ≡ lastSet noneSet cs (map numberIn (replies i cs))
   -- the state at the end has what every call keeps of it
   pub sound : WellFormed (segmentAfter i cs .table)

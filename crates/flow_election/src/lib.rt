@@ -54,7 +54,13 @@ pub fn elect_source_group(
 }
 
 // The same for the flow (*,G): 18 unless G is of 4 or of 16 octets; the number is the one that is set for (*,G).
-pub fn elect_any_source(t: &[u32], settings: &[u32], group: &[u8], tag: u32, ready: &[u32]) -> Answer
+pub fn elect_any_source(
+    t: &[u32],
+    settings: &[u32],
+    group: &[u8],
+    tag: u32,
+    ready: &[u32],
+) -> Answer
     requires { ⌜ Valid (now t) × ValidSettings (now settings) ⌝ }
     ensures answer { λ r. ⌜ r ≡ electWith (settingsIn (now (settings .entry))) (anySource (now (group .entry))) (tableIn (now (t .entry)) .esi) (tableIn (now (t .entry)) .entries) tag (readyIn (now (ready .entry))) ⌝ }
     ensures counted { λ r. ⌜ r .n ≡ ones (r .candidates) ⌝ }
