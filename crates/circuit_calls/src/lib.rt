@@ -3,17 +3,20 @@
 use address::Address;
 use circuits::Scope;
 use circuits::WORDS;
-use election::Answer;
+use segment_state::SETTINGS;
+use answers::Answer;
 ghost use mathlib.Core.Path.{_≡_};
 ghost use mathlib.Core.List.{List, []};
 ghost use lib.Count.{ones};
 ghost use Rattle.address.specs.Address.{addressRow};
-ghost use Rattle.layout.specs.Words.{tableIn, Valid};
+ghost use Rattle.segment_state.specs.State.{segmentIn, ValidSegment};
 ghost use Rattle.circuit_layout.specs.Circuits.{circuitsIn, ValidCircuits};
 ghost use Rattle.circuits.specs.Changes.{adAnnounced, adWithdrawn, AdTold};
 ghost use Rattle.circuit_ready.specs.Routers.{readyRouters};
 ghost use Rattle.refusals.specs.Refusals.{readyTooLong};
-ghost use Rattle.election.specs.Election.{electOver, NoneNamed, Forwarder};
+ghost use Rattle.answers.specs.Answers.{Forwarder};
+ghost use Rattle.election.specs.Queries.{plain, methodOf, candidatesOf, NoneNamed};
+ghost use Rattle.circuit_election.specs.Over.{electOver};
 ghost use Rattle.circuit_demand3.specs.Calls as calls;
 ghost use Rattle.circuit_demand3.specs.Demand3.{circuitsAfter, CircuitFollows, CircuitsDemand3};
 
@@ -50,17 +53,17 @@ pub fn withdraw_circuit(t: &mut [u32], scope: Scope, address: Address) -> u8
     circuits::withdraw(t, scope, address)
 }
 
-// Elects over both tables: as the election with a ready list does with the list of those routers of the route table that are ready for the tag by their A-D
+// Elects over both tables: as the plain election with a ready list does with the list of those routers of the route table that are ready for the tag by their A-D
 // routes. 10 for a reserved tag, 12 where no route is eligible; 11 is never answered.
-pub fn elect_by_circuits(t: &[u32], circuits: &[u32], tag: u32) -> Answer
-    requires { ⌜ Valid (now t) × ValidCircuits (now circuits) ⌝ }
-    ensures answer { λ r. ⌜ r ≡ electOver (tableIn (now (t .entry)) .esi) (tableIn (now (t .entry)) .entries) (circuitsIn (now (circuits .entry))) tag ⌝ }
+pub fn elect_by_circuits(s: &[u32], circuits: &[u32], tag: u32) -> Answer
+    requires { ⌜ ValidSegment (now s) × ValidCircuits (now circuits) ⌝ }
+    ensures answer { λ r. ⌜ r ≡ electOver (segmentIn (now (s .entry)) .settings) (segmentIn (now (s .entry)) .table .esi) (segmentIn (now (s .entry)) .table .entries) (circuitsIn (now (circuits .entry))) tag ⌝ }
     ensures counted { λ r. ⌜ r .n ≡ ones (r .candidates) ⌝ }
-    ensures none_named { λ r. ⌜ NoneNamed (tableIn (now (t .entry)) .entries) tag (readyRouters (circuitsIn (now (circuits .entry))) tag (tableIn (now (t .entry)) .entries)) r ⌝ }
-    ensures forwarder { λ r. ⌜ (r .number ≡ 0 → Forwarder (tableIn (now (t .entry)) .esi) (tableIn (now (t .entry)) .entries) tag (readyRouters (circuitsIn (now (circuits .entry))) tag (tableIn (now (t .entry)) .entries)) r) ⌝ }
+    ensures none_named { λ r. ⌜ NoneNamed (segmentIn (now (s .entry)) .settings) plain (segmentIn (now (s .entry)) .table .entries) tag (readyRouters (circuitsIn (now (circuits .entry))) tag (segmentIn (now (s .entry)) .table .entries)) r ⌝ }
+    ensures forwarder { λ r. ⌜ (r .number ≡ 0 → Forwarder (methodOf (segmentIn (now (s .entry)) .settings) plain (segmentIn (now (s .entry)) .table .esi) (segmentIn (now (s .entry)) .table .entries) tag) (candidatesOf (segmentIn (now (s .entry)) .settings) (segmentIn (now (s .entry)) .table .entries) (readyRouters (circuitsIn (now (circuits .entry))) tag (segmentIn (now (s .entry)) .table .entries))) tag r) ⌝ }
     ensures never_long { λ r. ⌜ (r .number ≡ readyTooLong → ⊥) ⌝ }
-    ensures call { λ r. ⌜ calls.circuitReply (circuitsIn (now (circuits .entry))) (calls.elect (tableIn (now (t .entry))) tag) ≡ calls.electReply r ⌝ }
-    ensures follows { λ r. ⌜ CircuitFollows (circuitsIn (now (circuits .entry))) (calls.elect (tableIn (now (t .entry))) tag) (calls.electReply r) (circuitsIn (now (circuits .entry))) ⌝ }
+    ensures call { λ r. ⌜ calls.circuitReply (circuitsIn (now (circuits .entry))) (calls.elect (segmentIn (now (s .entry))) tag) ≡ calls.electReply r ⌝ }
+    ensures follows { λ r. ⌜ CircuitFollows (circuitsIn (now (circuits .entry))) (calls.elect (segmentIn (now (s .entry))) tag) (calls.electReply r) (circuitsIn (now (circuits .entry))) ⌝ }
 {
-    election::elect_by_circuits(t, circuits, tag)
+    circuit_election::elect_by_circuits(&s[..SETTINGS], &s[SETTINGS..], circuits, tag)
 }

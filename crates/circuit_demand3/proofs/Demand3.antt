@@ -25,7 +25,7 @@ use Rattle.circuit_demand3.proofs.Calls.{rules, state, announced-number
 
 -- SINGLE CALLS
 -- the number of an election changes nothing that is held
-same-heard : (k : ℕ) (o : Option AdAnnouncement) (js : List AdAnnouncement) (g : ⊤) (c : CircuitCall)
+same-heard : (k : ℕ) (o : Option AdAnnouncement) (js : List AdAnnouncement) (g : Unit {0}) (c : CircuitCall)
     → cond (eqb (numberHeld js c) 0) (heard routeKey k (circuitEffect c) o) o
     ≡ cond (eqb (circuitNumber (circuitJournalReply js c)) 0) (heard routeKey k (circuitEffect c) o) o
 unfolding circuitNumber circuitJournalReply circuitEffect heard
@@ -33,7 +33,7 @@ same-heard k o js g (announce s a) = refl
 same-heard k o js g (withdraw s a) = refl
 same-heard k o js g (elect s tag) = no-choice (eqb (numberHeld js (elect s tag)) 0) (eqb (electOver (s .settings) (s .table .esi) (s .table .entries) (routesFrom js) tag .number) 0) o
 
-own-number : (js : List AdAnnouncement) (g : ⊤) (p : AdAnnouncement) → circuitJournalReply js (againCircuit p) ≡ changeReply (numberHeld js (againCircuit p))
+own-number : (js : List AdAnnouncement) (g : Unit {0}) (p : AdAnnouncement) → circuitJournalReply js (againCircuit p) ≡ changeReply (numberHeld js (againCircuit p))
 unfolding circuitJournalReply
 own-number js g p = refl
 
@@ -47,23 +47,20 @@ module _ (js : List AdAnnouncement) where
   agree (elect s tag) k = refl
 
 -- EVERY LIST OF THEM: the state is the list of the routes itself, and nothing is set
-abbrev routes : ⊤ → List (List ℕ) → List (List ℕ)
+abbrev routes : Unit {0} → List (List ℕ) → List (List ℕ)
 routes g l = l
 
-abbrev held : List AdAnnouncement → ⊤ → List AdAnnouncement
+abbrev held : List AdAnnouncement → Unit {0} → List AdAnnouncement
 held js g = js
 
-abbrev unset : ⊤ → CircuitCall → ⊤
+abbrev unset : Unit {0} → CircuitCall → Unit {0}
 unset g c = tt
 
-abbrev Any : ⊤ → Type 0
-Any g = ⊤
+abbrev Any : Unit {0} → Type 0
+Any g = Unit {0}
 
-abbrev none-set : ⊤ → List CircuitCall
+abbrev none-set : Unit {0} → List CircuitCall
 none-set g = []
-
-only-one : (g : ⊤) → tt ≡ g
-only-one g = refl
 
 whole : (cs : List CircuitCall)
     → replay.Replayed routeKey circuitCallNumber circuitEffect againCircuit routeFrom rowKey routes circuitsLeft circuitReply held stepHeld circuitJournalReply circuitNumber changeReply tt unset Any none-set cs
@@ -99,7 +96,6 @@ pub demand3 : (cs : List CircuitCall) → CircuitsDemand3 cs
 unfolding circuitsLeft circuitJournalReply
 demand3 cs =
     let w = whole cs in
-    let orders = λ (order : List AdAnnouncement) (h : List·Permᴰ order (circuitsHeld cs)). Permᴰ·map againCircuit h in
     record {
       told = w .told;
       elections = λ s tag. refl;
@@ -107,14 +103,14 @@ demand3 cs =
       single = w .distinct;
       last = w .last;
       sound = calls-kept [] cs none-right;
-      accepted = λ order h. w .accepted (map againCircuit order) (orders order h) ∙ ap (λ (n : ℕ). replicate n (changeReply 0)) (length-map order againCircuit);
-      state = λ order h. w .state (map againCircuit order) (orders order h);
-      words = λ order h. ap circuitWords (w .state (map againCircuit order) (orders order h));
+      accepted = λ order h. w .accepted (map againCircuit order) (Permᴰ·map againCircuit h) ∙ ap (λ (n : ℕ). replicate n (changeReply 0)) (length-map order againCircuit);
+      state = λ order h. w .state (map againCircuit order) (Permᴰ·map againCircuit h);
+      words = λ order h. ap circuitWords (w .state (map againCircuit order) (Permᴰ·map againCircuit h));
       rising = w .rising;
       all = w .all;
       only = w .only;
       answer = λ s tag. w .replied (elect s tag);
-      answerAgain = λ order h s tag. w .repliedAgain (map againCircuit order) (orders order h) (elect s tag);
+      answerAgain = λ order h s tag. w .repliedAgain (map againCircuit order) (Permᴰ·map againCircuit h) (elect s tag);
     }
 
 -- ONE CALL MORE at the end of a list

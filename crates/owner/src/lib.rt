@@ -1,11 +1,13 @@
 // The identifier that a table belongs to, in the table's words, one octet to a word: written, read, and compared with another.
 use layout::ESI;
+use refusals::ESI_RESERVED;
 ghost use mathlib.Core.Path.{_≡_};
 ghost use mathlib.Core.List.{_++_};
 ghost use Prim.Native.Nat.{_<_};
-ghost use lib.ListN.{length, take};
+ghost use lib.ListN.{length, take, replicate};
 ghost use Rattle.octets.specs.Octets.{sameNumbers};
 ghost use Rattle.layout.specs.Words.{tableIn, Octets, Valid};
+ghost use Rattle.owner.specs.Given.{Given};
 
 // How many octets an identifier has.
 const ESI_LENGTH: usize = 10;
@@ -28,6 +30,19 @@ pub fn put_identifier(t: &mut [u32], esi: &[u8])
         t[ESI + i] = octet(esi[i]);
         i += 1;
     }
+}
+
+// Gives the words of an empty table, all zeros, to an identifier. For a reserved one, or one that is not ten octets, 4, and the zeros stay: the table of the all-zero
+// identifier.
+pub fn give(t: &mut [u32], esi: &[u8]) -> u8
+    requires { ⌜ now t ≡ replicate 395 0 ⌝ }
+    ensures { λ r. ⌜ Given (now (esi .entry)) r (now (t .exit)) ⌝ }
+{
+    if esi::is_reserved(esi) {
+        return ESI_RESERVED;
+    }
+    put_identifier(t, esi);
+    0
 }
 
 // The identifier that a table belongs to.

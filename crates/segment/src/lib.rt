@@ -1,14 +1,16 @@
-// What users link: the calls of one segment, and those of the table of its Ethernet A-D routes (`circuit_calls`). A route table is 395 words, which the fresh call makes and the others are lent.
+// What users link: the calls of one segment, and those of the table of its Ethernet A-D routes (`circuit_calls`). The state of a segment is 397 words, its route table and
+// what the operator has set, which the fresh call makes and the others are lent.
 // The fresh call promises demand 3 of every list of calls; each call promises that it is one more call of the list.
 use address::Address;
+use answers::Answer;
 pub use circuit_calls::announce_circuit;
 pub use circuit_calls::elect_by_circuits;
 pub use circuit_calls::fresh_circuits;
 pub use circuit_calls::withdraw_circuit;
 pub use circuits::Scope;
-use election::Answer;
 use returning::Sent;
-use table::Made;
+use segment_state::SETTINGS;
+pub use segment_state::WORDS;
 use table::Verdict;
 ghost use mathlib.Core.Path.{_≡_};
 ghost use mathlib.Core.List.{List, []};
@@ -17,72 +19,133 @@ ghost use lib.Count.{ones};
 ghost use Rattle.address.specs.Address.{addressRow};
 ghost use Rattle.ready.specs.Ready.{readyIn};
 ghost use Rattle.route.specs.Route.{Fault, routeNumber};
-ghost use Rattle.layout.specs.Words.{tableIn, Valid};
-ghost use Rattle.table.specs.Table.{freshTable, announced, withdrawn, Told};
-ghost use Rattle.election.specs.Election.{electOf, NoneNamed, Forwarder};
+ghost use Rattle.table.specs.Table.{freshTable, announced, withdrawn};
+ghost use Rattle.settings.specs.Settings.{noneSet, numbersSet};
+ghost use Rattle.segment_state.specs.State.{freshSegment, segmentIn, ValidSegment, SegmentTold, NumbersTold};
+ghost use Rattle.answers.specs.Answers.{Forwarder};
+ghost use Rattle.election.specs.Election.{electOf};
+ghost use Rattle.election.specs.Queries.{plain, sourceGroup, anySource, methodOf, candidatesOf, electWith, NoneNamed};
 ghost use Rattle.returning.specs.Returning.{returningOf};
 ghost use Rattle.demand3.specs.Calls as calls;
-ghost use Rattle.demand3.specs.Demand3.{Demand3, Follows, tableAfter};
+ghost use Rattle.demand3.specs.Demand3.{Demand3, Follows, segmentAfter};
 ghost use Rattle.demand3.specs.Values.{starred, allRight};
 
-// A fresh table for an identifier. For a reserved one, or one that is not ten octets, 4 and the empty table of the all-zero identifier.
-// It is the table that the empty list of calls leaves. Whatever list of calls follows, demand 3 holds of it; and the definitions compute document
+// A fresh segment: 0 or a refusal number, and the words of its state.
+pub struct Made {
+    pub number: u8,
+    pub state: [u32; WORDS],
+}
+
+// A fresh segment for an identifier, with no route and none set. For a reserved identifier, or one that is not ten octets, 4 and the empty table of the all-zero one.
+// It is the state that the empty list of calls leaves. Whatever list of calls follows, demand 3 holds of it; and the definitions compute document
 // 01's starred values.
 pub fn fresh(esi: &[u8]) -> Made
-    ensures answer { λ r. ⌜ Told (freshTable (now (esi .entry))) (r .number) 0 (r .table) ⌝ }
-    ensures kept { λ r. ⌜ Valid (r .table) ⌝ }
-    ensures starts { λ r. ⌜ tableIn (r .table) ≡ tableAfter (now (esi .entry)) [] ⌝ }
+    ensures answer { λ r. ⌜ (r .number ≡ freshTable (now (esi .entry)) .number) × (segmentIn (r .state) ≡ freshSegment (now (esi .entry))) ⌝ }
+    ensures kept { λ r. ⌜ ValidSegment (r .state) ⌝ }
+    ensures starts { λ r. ⌜ segmentIn (r .state) ≡ segmentAfter (now (esi .entry)) [] ⌝ }
     ensures demand3 { λ r. ⌜ ((cs : List calls.Call) → Demand3 (now (esi .entry)) cs) ⌝ }
     ensures values { λ _. ⌜ allRight starred ≡ true ⌝ }
 {
-    table::fresh(esi)
+    let mut words = [0u32; WORDS];
+    let number = owner::give(&mut words[..SETTINGS], esi);
+    Made {
+        number: number,
+        state: words,
+    }
 }
 
 // Announces a route with its communities. The route's own checks come first; then 5 for another identifier, 7 for a list of communities
 // over 256 octets or not a multiple of 8, 8 for a new address where 64 are present. An address that is present has its entry replaced. The
 // offset that the route's own checks give is passed on.
-pub fn announce(t: &mut [u32], route: &[u8], communities: &[u8]) -> Verdict
-    requires { ⌜ Valid (now t) ⌝ }
-    ensures answer { λ r. ⌜ Told (announced (tableIn (now (t .entry))) (now (route .entry)) (now (communities .entry))) (r .number) (r .offset) (now (t .exit)) ⌝ }
-    ensures kept { λ _. ⌜ Valid (now (t .exit)) ⌝ }
-    ensures call { λ r. ⌜ calls.Changes (tableIn (now (t .entry))) (calls.announce (now (route .entry)) (now (communities .entry))) (r .number) (tableIn (now (t .exit))) ⌝ }
-    ensures follows { λ r. ⌜ Follows (tableIn (now (t .entry))) (calls.announce (now (route .entry)) (now (communities .entry))) (calls.changeReply (r .number)) (tableIn (now (t .exit))) ⌝ }
+pub fn announce(s: &mut [u32], route: &[u8], communities: &[u8]) -> Verdict
+    requires { ⌜ ValidSegment (now s) ⌝ }
+    ensures answer { λ r. ⌜ SegmentTold (announced (segmentIn (now (s .entry)) .table) (now (route .entry)) (now (communities .entry))) (segmentIn (now (s .entry)) .settings) (r .number) (r .offset) (now (s .exit)) ⌝ }
+    ensures kept { λ _. ⌜ ValidSegment (now (s .exit)) ⌝ }
+    ensures call { λ r. ⌜ calls.Changes (segmentIn (now (s .entry))) (calls.announce (now (route .entry)) (now (communities .entry))) (r .number) (segmentIn (now (s .exit))) ⌝ }
+    ensures follows { λ r. ⌜ Follows (segmentIn (now (s .entry))) (calls.announce (now (route .entry)) (now (communities .entry))) (calls.changeReply (r .number)) (segmentIn (now (s .exit))) ⌝ }
     ensures fault { λ r. ⌜ Fault (now (route .entry)) (routeNumber (now (route .entry))) (r .offset) ⌝ }
 {
-    announcing::announce(t, route, communities)
+    announcing::announce(&mut s[..SETTINGS], route, communities)
 }
 
 // Withdraws an address: 6 for address zero, 9 for one that is not present. The freed place is zero and can be filled again.
-pub fn withdraw(t: &mut [u32], address: Address) -> u8
-    requires { ⌜ Valid (now t) ⌝ }
-    ensures answer { λ r. ⌜ Told (withdrawn (tableIn (now (t .entry))) (addressRow address)) r 0 (now (t .exit)) ⌝ }
-    ensures kept { λ _. ⌜ Valid (now (t .exit)) ⌝ }
-    ensures call { λ r. ⌜ calls.Changes (tableIn (now (t .entry))) (calls.withdraw (addressRow address)) r (tableIn (now (t .exit))) ⌝ }
-    ensures follows { λ r. ⌜ Follows (tableIn (now (t .entry))) (calls.withdraw (addressRow address)) (calls.changeReply r) (tableIn (now (t .exit))) ⌝ }
+pub fn withdraw(s: &mut [u32], address: Address) -> u8
+    requires { ⌜ ValidSegment (now s) ⌝ }
+    ensures answer { λ r. ⌜ SegmentTold (withdrawn (segmentIn (now (s .entry)) .table) (addressRow address)) (segmentIn (now (s .entry)) .settings) r 0 (now (s .exit)) ⌝ }
+    ensures kept { λ _. ⌜ ValidSegment (now (s .exit)) ⌝ }
+    ensures call { λ r. ⌜ calls.Changes (segmentIn (now (s .entry))) (calls.withdraw (addressRow address)) r (segmentIn (now (s .exit))) ⌝ }
+    ensures follows { λ r. ⌜ Follows (segmentIn (now (s .entry))) (calls.withdraw (addressRow address)) (calls.changeReply r) (segmentIn (now (s .exit))) ⌝ }
 {
-    table::withdraw(t, address)
+    table::withdraw(&mut s[..SETTINGS], address)
+}
+
+// Sets the algorithm numbers of the elections by flow, that for (S,G) and that for (*,G): 15 unless they are two different ones from 4 to 30, and then the old ones are
+// kept. It acts at once upon routes that are present.
+pub fn set_flow_algorithms(s: &mut [u32], source_group: u8, any_source: u8) -> u8
+    requires { ⌜ ValidSegment (now s) ⌝ }
+    ensures answer { λ r. ⌜ NumbersTold (numbersSet (segmentIn (now (s .entry)) .settings) «source_group» «any_source») (segmentIn (now (s .entry)) .table) r (now (s .exit)) ⌝ }
+    ensures kept { λ _. ⌜ ValidSegment (now (s .exit)) ⌝ }
+    ensures call { λ r. ⌜ calls.Changes (segmentIn (now (s .entry))) (calls.setNumbers «source_group» «any_source») r (segmentIn (now (s .exit))) ⌝ }
+    ensures follows { λ r. ⌜ Follows (segmentIn (now (s .entry))) (calls.setNumbers «source_group» «any_source») (calls.changeReply r) (segmentIn (now (s .exit))) ⌝ }
+{
+    settings::set_numbers(&mut s[SETTINGS..], source_group, any_source)
 }
 
 // Elects the Designated Forwarder for a tag: 10 for tag 0 or 4,294,967,295, 11 for a ready list over 64 rows of five words, 12 where no route is eligible.
-// An address that is named is that of a candidate; under algorithms 1 to 3 no candidate is better, and it is the only such.
-pub fn elect(t: &[u32], tag: u32, ready: &[u32]) -> Answer
-    requires { ⌜ Valid (now t) ⌝ }
-    ensures answer { λ r. ⌜ r ≡ electOf (tableIn (now (t .entry)) .esi) (tableIn (now (t .entry)) .entries) tag (readyIn (now (ready .entry))) ⌝ }
+// An address that is named is that of a candidate; under algorithms 1 to 3 no candidate is better, and it is the only such. With none set the answer is document 01's.
+pub fn elect(s: &[u32], tag: u32, ready: &[u32]) -> Answer
+    requires { ⌜ ValidSegment (now s) ⌝ }
+    ensures answer { λ r. ⌜ r ≡ electWith (segmentIn (now (s .entry)) .settings) plain (segmentIn (now (s .entry)) .table .esi) (segmentIn (now (s .entry)) .table .entries) tag (readyIn (now (ready .entry))) ⌝ }
     ensures counted { λ r. ⌜ r .n ≡ ones (r .candidates) ⌝ }
-    ensures none_named { λ r. ⌜ NoneNamed (tableIn (now (t .entry)) .entries) tag (readyIn (now (ready .entry))) r ⌝ }
-    ensures forwarder { λ r. ⌜ (r .number ≡ 0 → Forwarder (tableIn (now (t .entry)) .esi) (tableIn (now (t .entry)) .entries) tag (readyIn (now (ready .entry))) r) ⌝ }
-    ensures call { λ r. ⌜ calls.replyTo (tableIn (now (t .entry))) (calls.elect tag (readyIn (now (ready .entry)))) ≡ calls.electReply r ⌝ }
-    ensures follows { λ r. ⌜ Follows (tableIn (now (t .entry))) (calls.elect tag (readyIn (now (ready .entry)))) (calls.electReply r) (tableIn (now (t .entry))) ⌝ }
+    ensures none_named { λ r. ⌜ NoneNamed (segmentIn (now (s .entry)) .settings) plain (segmentIn (now (s .entry)) .table .entries) tag (readyIn (now (ready .entry))) r ⌝ }
+    ensures forwarder { λ r. ⌜ (r .number ≡ 0 → Forwarder (methodOf (segmentIn (now (s .entry)) .settings) plain (segmentIn (now (s .entry)) .table .esi) (segmentIn (now (s .entry)) .table .entries) tag) (candidatesOf (segmentIn (now (s .entry)) .settings) (segmentIn (now (s .entry)) .table .entries) (readyIn (now (ready .entry)))) tag r) ⌝ }
+    ensures none_set { λ r. ⌜ (segmentIn (now (s .entry)) .settings ≡ noneSet → r ≡ electOf (segmentIn (now (s .entry)) .table .esi) (segmentIn (now (s .entry)) .table .entries) tag (readyIn (now (ready .entry)))) ⌝ }
+    ensures call { λ r. ⌜ calls.replyTo (segmentIn (now (s .entry))) (calls.elect plain tag (readyIn (now (ready .entry)))) ≡ calls.electReply r ⌝ }
+    ensures follows { λ r. ⌜ Follows (segmentIn (now (s .entry))) (calls.elect plain tag (readyIn (now (ready .entry)))) (calls.electReply r) (segmentIn (now (s .entry))) ⌝ }
 {
-    election::elect(t, tag, ready)
+    election::elect(&s[..SETTINGS], &s[SETTINGS..], tag, ready)
+}
+
+// Elects the Designated Forwarder for the multicast flow (S,G) in a tag, by the octets of S and G: 10 and 11 as for a tag, then 18 unless S and G are both of 4 or both of
+// 16 octets, 12 where no route is eligible. Where all routes carry the number that is set for (S,G) and one AC-DF bit, the number is told as the algorithm in use, and the
+// flow has a forwarder of its own; otherwise the answer is that of `elect`.
+pub fn elect_source_group(
+    s: &[u32],
+    source: &[u8],
+    group: &[u8],
+    tag: u32,
+    ready: &[u32],
+) -> Answer
+    requires { ⌜ ValidSegment (now s) ⌝ }
+    ensures answer { λ r. ⌜ r ≡ electWith (segmentIn (now (s .entry)) .settings) (sourceGroup (now (source .entry)) (now (group .entry))) (segmentIn (now (s .entry)) .table .esi) (segmentIn (now (s .entry)) .table .entries) tag (readyIn (now (ready .entry))) ⌝ }
+    ensures counted { λ r. ⌜ r .n ≡ ones (r .candidates) ⌝ }
+    ensures none_named { λ r. ⌜ NoneNamed (segmentIn (now (s .entry)) .settings) (sourceGroup (now (source .entry)) (now (group .entry))) (segmentIn (now (s .entry)) .table .entries) tag (readyIn (now (ready .entry))) r ⌝ }
+    ensures forwarder { λ r. ⌜ (r .number ≡ 0 → Forwarder (methodOf (segmentIn (now (s .entry)) .settings) (sourceGroup (now (source .entry)) (now (group .entry))) (segmentIn (now (s .entry)) .table .esi) (segmentIn (now (s .entry)) .table .entries) tag) (candidatesOf (segmentIn (now (s .entry)) .settings) (segmentIn (now (s .entry)) .table .entries) (readyIn (now (ready .entry)))) tag r) ⌝ }
+    ensures call { λ r. ⌜ calls.replyTo (segmentIn (now (s .entry))) (calls.elect (sourceGroup (now (source .entry)) (now (group .entry))) tag (readyIn (now (ready .entry)))) ≡ calls.electReply r ⌝ }
+    ensures follows { λ r. ⌜ Follows (segmentIn (now (s .entry))) (calls.elect (sourceGroup (now (source .entry)) (now (group .entry))) tag (readyIn (now (ready .entry)))) (calls.electReply r) (segmentIn (now (s .entry))) ⌝ }
+{
+    flow_election::elect_source_group(&s[..SETTINGS], &s[SETTINGS..], source, group, tag, ready)
+}
+
+// The same for the multicast flow (*,G), by the octets of G: 18 unless G is of 4 or of 16 octets.
+pub fn elect_any_source(s: &[u32], group: &[u8], tag: u32, ready: &[u32]) -> Answer
+    requires { ⌜ ValidSegment (now s) ⌝ }
+    ensures answer { λ r. ⌜ r ≡ electWith (segmentIn (now (s .entry)) .settings) (anySource (now (group .entry))) (segmentIn (now (s .entry)) .table .esi) (segmentIn (now (s .entry)) .table .entries) tag (readyIn (now (ready .entry))) ⌝ }
+    ensures counted { λ r. ⌜ r .n ≡ ones (r .candidates) ⌝ }
+    ensures none_named { λ r. ⌜ NoneNamed (segmentIn (now (s .entry)) .settings) (anySource (now (group .entry))) (segmentIn (now (s .entry)) .table .entries) tag (readyIn (now (ready .entry))) r ⌝ }
+    ensures forwarder { λ r. ⌜ (r .number ≡ 0 → Forwarder (methodOf (segmentIn (now (s .entry)) .settings) (anySource (now (group .entry))) (segmentIn (now (s .entry)) .table .esi) (segmentIn (now (s .entry)) .table .entries) tag) (candidatesOf (segmentIn (now (s .entry)) .settings) (segmentIn (now (s .entry)) .table .entries) (readyIn (now (ready .entry)))) tag r) ⌝ }
+    ensures call { λ r. ⌜ calls.replyTo (segmentIn (now (s .entry))) (calls.elect (anySource (now (group .entry))) tag (readyIn (now (ready .entry)))) ≡ calls.electReply r ⌝ }
+    ensures follows { λ r. ⌜ Follows (segmentIn (now (s .entry))) (calls.elect (anySource (now (group .entry))) tag (readyIn (now (ready .entry)))) (calls.electReply r) (segmentIn (now (s .entry))) ⌝ }
+{
+    flow_election::elect_any_source(&s[..SETTINGS], &s[SETTINGS..], group, tag, ready)
 }
 
 // What a returning router advertises: 15 for an own algorithm that is not 2 or 3, 6 for address zero.
-pub fn returning(t: &[u32], address: Address, algorithm: u8, preference: u16, dp: bool) -> Sent
-    requires { ⌜ Valid (now t) ⌝ }
-    ensures answer { λ r. ⌜ r ≡ returningOf (tableIn (now (t .entry)) .entries) (addressRow address) algorithm preference dp ⌝ }
-    ensures call { λ r. ⌜ calls.replyTo (tableIn (now (t .entry))) (calls.returning (addressRow address) algorithm preference dp) ≡ calls.returningReply r ⌝ }
-    ensures follows { λ r. ⌜ Follows (tableIn (now (t .entry))) (calls.returning (addressRow address) algorithm preference dp) (calls.returningReply r) (tableIn (now (t .entry))) ⌝ }
+pub fn returning(s: &[u32], address: Address, algorithm: u8, preference: u16, dp: bool) -> Sent
+    requires { ⌜ ValidSegment (now s) ⌝ }
+    ensures answer { λ r. ⌜ r ≡ returningOf (segmentIn (now (s .entry)) .table .entries) (addressRow address) algorithm preference dp ⌝ }
+    ensures call { λ r. ⌜ calls.replyTo (segmentIn (now (s .entry))) (calls.returning (addressRow address) algorithm preference dp) ≡ calls.returningReply r ⌝ }
+    ensures follows { λ r. ⌜ Follows (segmentIn (now (s .entry))) (calls.returning (addressRow address) algorithm preference dp) (calls.returningReply r) (segmentIn (now (s .entry))) ⌝ }
 {
-    returning::returning(t, address, algorithm, preference, dp)
+    returning::returning(&s[..SETTINGS], address, algorithm, preference, dp)
 }

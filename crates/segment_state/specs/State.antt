@@ -5,13 +5,16 @@
 --   segmentWords s   == THE words of the state s
 --   segmentIn b      == the state that lies in the words b
 --   ValidSegment b   == b is the words of a state that the calls can have made
+--   SegmentTold c g n p b == the number n, the offset p and the state in the words b are what the answer c of a call of the table says, where g is set
+--   NumbersTold c t n b   == the number n and the state in the words b are what the answer c of a setting says, where the table is t
 use Prim.Native.Nat.{ℕ}
+use mathlib.Core.Path.{_≡_}
 use mathlib.Core.List.{List, _++_}
 use lib.ListN.{take, drop}
 use Rattle.layout.specs.Table.{Table}
 use Rattle.layout.specs.Words.{wordsOf, tableIn, Valid}
-use Rattle.table.specs.Table.{freshTable}
-use Rattle.settings.specs.Settings.{Settings, noneSet, settingsWords, settingsIn, ValidSettings}
+use Rattle.table.specs.Table.{Change, freshTable}
+use Rattle.settings.specs.Settings.{Settings, SettingsChange, noneSet, settingsWords, settingsIn, ValidSettings}
 
 pub record Segment : Type 0 where
   pub table : Table
@@ -29,3 +32,10 @@ segmentIn b = record { table = tableIn (take 395 b); settings = settingsIn (drop
 pub record ValidSegment (b : List ℕ) : Type 0 where
   pub table : Valid (take 395 b)
   pub settings : ValidSettings (drop 395 b)
+
+-- what a call answers and leaves. Where the words are valid, this decides every one of them
+abbrev pub SegmentTold : Change → Settings → ℕ → ℕ → List ℕ → Type 0
+SegmentTold c g n p b = (n ≡ c .number) × (p ≡ c .offset) × (segmentIn b ≡ record { table = c .table; settings = g })
+
+abbrev pub NumbersTold : SettingsChange → Table → ℕ → List ℕ → Type 0
+NumbersTold c t n b = (n ≡ c .number) × (segmentIn b ≡ record { table = t; settings = c .settings })

@@ -27,6 +27,7 @@ use Rattle.rows.proofs.Places.{present-at, at-lt}
 use Rattle.layout.specs.Table.{Entry, entryKey, noEntry, entryOf, AddressRight, Table, tableOf, WellFormed, ownerOf}
 use Rattle.layout.specs.Words.{attributesOf, kindOf, standingOf, entryIn, wordsOf, tableIn, Octets, Valid, Packed}
 use Rattle.layout.proofs.Words.{Narrow, entry-back, address-row, table-in, valid-of, narrow-entries}
+use Rattle.owner.specs.Given.{Given}
 use Rattle.table.specs.Table.{Change, announceNumber, withdrawNumber, freshTable, announced, withdrawn, Told}
 use Rattle.table.specs.Steps.{Stored, admitted}
 use Rattle.table.proofs.Calls as calls
@@ -40,27 +41,18 @@ empty-words : (i : List ℕ) → wordsOf (tableOf i []) ≡ replicate 385 0 ++ i
 unfolding wordsOf column flat
 empty-words i = refl
 
-zero-octets : Octets (replicate 10 0)
-unfolding Every
-zero-octets = omega arith
-
 module _ (i : List ℕ) where
   abbrev Fresh : ℕ → List ℕ → Type 0
   Fresh n b = Told (freshTable i) n 0 b × Valid b
 
-  fresh-told : (n : ℕ) (j : List ℕ) → cond (reserved i) 4 0 ≡ n → ownerOf i ≡ j → Octets j → Fresh n (replicate 385 0 ++ j)
+  -- from what the empty table got of the identifier
+  pub fresh-told : (n : ℕ) (b : List ℕ) → Given i n b → Fresh n b
   unfolding freshTable Every
-  fresh-told n j e f o =
-      let w : WellFormed (tableOf j []) = subst (λ (k : List ℕ). WellFormed (tableOf k [])) f (calls.fresh-kept i) in
-      ((sym e, refl, ap tableIn (sym (empty-words j)) ∙ table-in (tableOf j []) (w .short) tt tt ∙ ap (λ (k : List ℕ). tableOf k []) (sym f)), subst Valid (empty-words j) (valid-of (tableOf j []) w tt o))
-
-  pub fresh-reserved : reserved i ≡ true → Fresh 4 (replicate 395 0)
-  unfolding ownerOf
-  fresh-reserved h = fresh-told 4 (replicate 10 0) (rw h) (rw h) zero-octets
-
-  pub fresh-accepted : (b : List ℕ) → reserved i ≡ false → Octets i → b ≡ take 385 (replicate 395 0) ++ i → Fresh 0 b
-  unfolding ownerOf
-  fresh-accepted b h o q = subst (Fresh 0) (sym q) (fresh-told 0 i (rw h) (rw h) o)
+  fresh-told n b (e, q, o) =
+      let t = tableOf (ownerOf i) [] in
+      let w : WellFormed t = calls.fresh-kept i in
+      let f : b ≡ wordsOf t = q ∙ sym (empty-words (ownerOf i)) in
+      ((e, refl, ap tableIn f ∙ table-in t (w .short) tt tt), subst Valid (sym f) (valid-of t w tt o))
 
 -- AN ENTRY and its words
 packed-entry : (a : List ℕ) (w : ℕ) (e : Election) → Packed e w → entryIn a (w ∷ []) ≡ entryOf a e

@@ -3,7 +3,6 @@
 use address::Address;
 pub use layout::WORDS;
 use refusals::ADDRESS_ZERO;
-use refusals::ESI_RESERVED;
 use refusals::NOT_PRESENT;
 use rows::Found;
 ghost use Rattle.address.specs.Address.{addressRow};
@@ -31,15 +30,9 @@ pub fn fresh(esi: &[u8]) -> Made
     ensures kept { λ r. ⌜ Valid (r .table) ⌝ }
 {
     let mut words = [0u32; WORDS];
-    if esi::is_reserved(esi) {
-        return Made {
-            number: ESI_RESERVED,
-            table: words,
-        };
-    }
-    owner::put_identifier(&mut words, esi);
+    let number = owner::give(&mut words, esi);
     Made {
-        number: 0,
+        number: number,
         table: words,
     }
 }
