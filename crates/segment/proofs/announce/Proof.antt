@@ -1,20 +1,31 @@
--- `announce` meets its contract: the table's own promises, and that it is the list's call. Assumes nothing.
+-- `announce` meets its contract: the table's own promises upon its part of the words, and that it is the list's call. Assumes nothing.
+use native.Mathlib.Omega.{arith}
+use mathlib.Core.Path.{ap, _∙_, sym}
 use denote.Ref.{now}
-use Rattle.layout.specs.Words.{tableIn}
-use Rattle.demand3.specs.Calls.{announce}
-use Rattle.demand3.proofs.Calls.{announce-changes}
-use Rattle.demand3.proofs.Demand3.{follows}
+use lib.Seq.{length-take-le}
 use borrow.Author.Needs.{needs}
+use Rattle.layout.specs.Table.{Table}
+use Rattle.segment_state.specs.State.{segmentIn}
+use Rattle.segment_state.proofs.Laws.{length-state, table-written}
+use Rattle.demand3.specs.Calls.{announce}
+use Rattle.segment.proofs.Told.{announce-told}
 use Rattle.segment.proofs.announce.Statement.{statement}
 use Rattle.segment.proofs.announce.Tie as tie
 
 returns : tie.Need-returns
 returns c =
     let told = c .before .before .announce .ensures in
-    let a = c .before .before .before .before .before .before .before .args in
-    let t = tableIn (a .t .now) in
-    let call = announce-changes t (now (a .route)) (now (a .communities)) _ _ _ (told .0) in
-    (told .0, (told .1 .0, (call, (follows t (announce (now (a .route)) (now (a .communities))) (call .0) (call .1), told .1 .1))))
+    let start = c .before .before .before .before .before .before .before in
+    let a = start .args in
+    let r = announce-told (a .s .now) (start .pre) (now (a .route)) (now (a .communities)) _ _ _ (told .0) (told .1 .0) in
+    (r .0, (r .1, (r .2, (r .3, told .1 .1))))
 
 pub announce-spec : {M : Type 1} → statement M
-announce-spec = tie.close (tie.spec (λ c κs. search needs) (λ c. search needs) returns)
+announce-spec =
+    tie.close
+    (tie.spec
+    (λ c. let s = c .before .before .before in omega (arith, length-state (s .args .s .now) (s .pre)))
+    (λ c. let s = c .before .before .before .before in sym (length-take-le 395 (s .args .s .now) (omega (arith, length-state (s .args .s .now) (s .pre)))))
+    (λ c κs. c .before .before .before .before .pre .table)
+    (λ c. search needs)
+    returns)

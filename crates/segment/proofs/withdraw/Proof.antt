@@ -1,20 +1,27 @@
--- `withdraw` meets its contract: the table's own promises, and that it is the list's call. Assumes nothing.
-use Rattle.address.specs.Address.{addressRow}
-use Rattle.layout.specs.Words.{tableIn}
-use Rattle.demand3.specs.Calls.{withdraw}
-use Rattle.demand3.proofs.Calls.{withdraw-changes}
-use Rattle.demand3.proofs.Demand3.{follows}
+-- `withdraw` meets its contract: the table's own promises upon its part of the words, and that it is the list's call. Assumes nothing.
+use native.Mathlib.Omega.{arith}
+use mathlib.Core.Path.{sym}
+use lib.Seq.{length-take-le}
 use borrow.Author.Needs.{needs}
+use Rattle.address.specs.Address.{addressRow}
+use Rattle.segment_state.proofs.Laws.{length-state}
+use Rattle.segment.proofs.Told.{withdraw-told}
 use Rattle.segment.proofs.withdraw.Statement.{statement}
 use Rattle.segment.proofs.withdraw.Tie as tie
 
 returns : tie.Need-returns
 returns c =
     let told = c .before .before .withdraw .ensures in
-    let a = c .before .before .before .before .before .args in
-    let t = tableIn (a .t .now) in
-    let call = withdraw-changes t (addressRow (a .address)) _ _ _ (told .0) in
-    (told .0, (told .1, (call, follows t (withdraw (addressRow (a .address))) (call .0) (call .1))))
+    let start = c .before .before .before .before .before in
+    let r = withdraw-told (start .args .s .now) (start .pre) (addressRow (start .args .address)) _ _ _ (told .0) (told .1) in
+    (r .0, (r .1, (r .2, r .3)))
 
 pub withdraw-spec : {M : Type 1} → statement M
-withdraw-spec = tie.close (tie.spec (λ c κs. search needs) (λ c. search needs) returns)
+withdraw-spec =
+    tie.close
+    (tie.spec
+    (λ c. let s = c .before in omega (arith, length-state (s .args .s .now) (s .pre)))
+    (λ c. let s = c .before .before in sym (length-take-le 395 (s .args .s .now) (omega (arith, length-state (s .args .s .now) (s .pre)))))
+    (λ c κs. c .before .before .pre .table)
+    (λ c. search needs)
+    returns)
