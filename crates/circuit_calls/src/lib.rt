@@ -1,10 +1,10 @@
 // What users link of the table of Ethernet A-D routes, through `segment`: its calls and the election over both tables. A table is 1,793 words, which the fresh call
 // makes and the others are lent. The fresh call promises demand 3 of every list of calls; each call promises that it is one more call of the list.
 use address::Address;
+use answers::Answer;
 use circuits::Scope;
 use circuits::WORDS;
 use segment_state::SETTINGS;
-use answers::Answer;
 ghost use mathlib.Core.Path.{_≡_};
 ghost use mathlib.Core.List.{List, []};
 ghost use lib.Count.{ones};

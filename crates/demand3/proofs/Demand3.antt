@@ -24,7 +24,7 @@ use Rattle.answers.specs.declared.Answer.{Answer}
 use Rattle.election.specs.Queries.{Query, electWith}
 use Rattle.returning.specs.declared.Sent.{Sent}
 use Rattle.returning.specs.Returning.{returningOf}
-use Rattle.demand3.specs.Calls.{Call, announce, withdraw, setNumbers, elect, returning, Reply, changeReply, electReply, returningReply, numberIn, replyTo, tableLeft, settingsLeft, leaves}
+use Rattle.demand3.specs.Calls.{Call, announce, withdraw, setNumbers, elect, returning, Reply, changeReply, electReply, returningReply, numberIn, replyTo, tableLeft, settingsLeft, leaves, Changes}
 use Rattle.demand3.specs.Journal.{Announcement, originatorKey, again, entryFrom, entriesFrom, callNumber, callEffect, numberFor, Journal, journalOf, step, journalReply, settingsSet, setAgain, lastSet}
 use Rattle.demand3.specs.Demand3.{replies, segmentAfter, Follows, Demand3}
 use Rattle.demand3.proofs.Calls.{rules, state, announced-number, withdrawn-number, call-state, refused-leaves, table-kept, settings-kept}
@@ -143,3 +143,7 @@ elect-follows s q tag ready e = follows s (elect q tag ready) e refl
 pub returning-follows : (s : Segment) (a : List ℕ) (alg p : ℕ) (d : Bool) {r : Sent} → replyTo s (returning a alg p d) ≡ returningReply r → Follows s (returning a alg p d) (returningReply r) s
 unfolding tableLeft settingsLeft
 returning-follows s a alg p d e = follows s (returning a alg p d) e refl
+
+-- a call that may change the state, with what it answers and leaves
+pub lands : (s : Segment) (c : Call) (n : ℕ) (v u : Segment) → v ≡ u → Changes s c n u → Changes s c n v × Follows s c (changeReply n) v
+lands s c n v u q h = let t : Changes s c n v = rw q h in (t, follows s c (t .0) (t .1))

@@ -1,4 +1,4 @@
-// What users link: the calls of one segment, and those of the table of its Ethernet A-D routes (`circuit_calls`). The state of a segment is 397 words, its route table and
+// What users link: the calls of one segment, those for multicast flows (`flow_calls`), and those of the table of its Ethernet A-D routes (`circuit_calls`). The state of a segment is 397 words, its route table and
 // what the operator has set, which the fresh call makes and the others are lent.
 // The fresh call promises demand 3 of every list of calls; each call promises that it is one more call of the list.
 use address::Address;
@@ -8,6 +8,9 @@ pub use circuit_calls::elect_by_circuits;
 pub use circuit_calls::fresh_circuits;
 pub use circuit_calls::withdraw_circuit;
 pub use circuits::Scope;
+pub use flow_calls::elect_any_source;
+pub use flow_calls::elect_source_group;
+pub use flow_calls::set_flow_algorithms;
 use returning::Sent;
 use segment_state::SETTINGS;
 pub use segment_state::WORDS;
@@ -20,11 +23,11 @@ ghost use Rattle.address.specs.Address.{addressRow};
 ghost use Rattle.ready.specs.Ready.{readyIn};
 ghost use Rattle.route.specs.Route.{Fault, routeNumber};
 ghost use Rattle.table.specs.Table.{freshTable, announced, withdrawn};
-ghost use Rattle.settings.specs.Settings.{noneSet, numbersSet};
-ghost use Rattle.segment_state.specs.State.{freshSegment, segmentIn, ValidSegment, SegmentTold, NumbersTold};
+ghost use Rattle.settings.specs.Settings.{noneSet};
+ghost use Rattle.segment_state.specs.State.{freshSegment, segmentIn, ValidSegment, SegmentTold};
 ghost use Rattle.answers.specs.Answers.{Forwarder};
 ghost use Rattle.election.specs.Election.{electOf};
-ghost use Rattle.election.specs.Queries.{plain, sourceGroup, anySource, methodOf, candidatesOf, electWith, NoneNamed};
+ghost use Rattle.election.specs.Queries.{plain, methodOf, candidatesOf, electWith, NoneNamed};
 ghost use Rattle.returning.specs.Returning.{returningOf};
 ghost use Rattle.demand3.specs.Calls as calls;
 ghost use Rattle.demand3.specs.Demand3.{Demand3, Follows, segmentAfter};
@@ -79,18 +82,6 @@ pub fn withdraw(s: &mut [u32], address: Address) -> u8
     table::withdraw(&mut s[..SETTINGS], address)
 }
 
-// Sets the algorithm numbers of the elections by flow, that for (S,G) and that for (*,G): 15 unless they are two different ones from 4 to 30, and then the old ones are
-// kept. It acts at once upon routes that are present.
-pub fn set_flow_algorithms(s: &mut [u32], source_group: u8, any_source: u8) -> u8
-    requires { ⌜ ValidSegment (now s) ⌝ }
-    ensures answer { λ r. ⌜ NumbersTold (numbersSet (segmentIn (now (s .entry)) .settings) «source_group» «any_source») (segmentIn (now (s .entry)) .table) r (now (s .exit)) ⌝ }
-    ensures kept { λ _. ⌜ ValidSegment (now (s .exit)) ⌝ }
-    ensures call { λ r. ⌜ calls.Changes (segmentIn (now (s .entry))) (calls.setNumbers «source_group» «any_source») r (segmentIn (now (s .exit))) ⌝ }
-    ensures follows { λ r. ⌜ Follows (segmentIn (now (s .entry))) (calls.setNumbers «source_group» «any_source») (calls.changeReply r) (segmentIn (now (s .exit))) ⌝ }
-{
-    settings::set_numbers(&mut s[SETTINGS..], source_group, any_source)
-}
-
 // Elects the Designated Forwarder for a tag: 10 for tag 0 or 4,294,967,295, 11 for a ready list over 64 rows of five words, 12 where no route is eligible.
 // An address that is named is that of a candidate; under algorithms 1 to 3 no candidate is better, and it is the only such. With none set the answer is document 01's.
 pub fn elect(s: &[u32], tag: u32, ready: &[u32]) -> Answer
@@ -104,40 +95,6 @@ pub fn elect(s: &[u32], tag: u32, ready: &[u32]) -> Answer
     ensures follows { λ r. ⌜ Follows (segmentIn (now (s .entry))) (calls.elect plain tag (readyIn (now (ready .entry)))) (calls.electReply r) (segmentIn (now (s .entry))) ⌝ }
 {
     election::elect(&s[..SETTINGS], &s[SETTINGS..], tag, ready)
-}
-
-// Elects the Designated Forwarder for the multicast flow (S,G) in a tag, by the octets of S and G: 10 and 11 as for a tag, then 18 unless S and G are both of 4 or both of
-// 16 octets, 12 where no route is eligible. Where all routes carry the number that is set for (S,G) and one AC-DF bit, the number is told as the algorithm in use, and the
-// flow has a forwarder of its own; otherwise the answer is that of `elect`.
-pub fn elect_source_group(
-    s: &[u32],
-    source: &[u8],
-    group: &[u8],
-    tag: u32,
-    ready: &[u32],
-) -> Answer
-    requires { ⌜ ValidSegment (now s) ⌝ }
-    ensures answer { λ r. ⌜ r ≡ electWith (segmentIn (now (s .entry)) .settings) (sourceGroup (now (source .entry)) (now (group .entry))) (segmentIn (now (s .entry)) .table .esi) (segmentIn (now (s .entry)) .table .entries) tag (readyIn (now (ready .entry))) ⌝ }
-    ensures counted { λ r. ⌜ r .n ≡ ones (r .candidates) ⌝ }
-    ensures none_named { λ r. ⌜ NoneNamed (segmentIn (now (s .entry)) .settings) (sourceGroup (now (source .entry)) (now (group .entry))) (segmentIn (now (s .entry)) .table .entries) tag (readyIn (now (ready .entry))) r ⌝ }
-    ensures forwarder { λ r. ⌜ (r .number ≡ 0 → Forwarder (methodOf (segmentIn (now (s .entry)) .settings) (sourceGroup (now (source .entry)) (now (group .entry))) (segmentIn (now (s .entry)) .table .esi) (segmentIn (now (s .entry)) .table .entries) tag) (candidatesOf (segmentIn (now (s .entry)) .settings) (segmentIn (now (s .entry)) .table .entries) (readyIn (now (ready .entry)))) tag r) ⌝ }
-    ensures call { λ r. ⌜ calls.replyTo (segmentIn (now (s .entry))) (calls.elect (sourceGroup (now (source .entry)) (now (group .entry))) tag (readyIn (now (ready .entry)))) ≡ calls.electReply r ⌝ }
-    ensures follows { λ r. ⌜ Follows (segmentIn (now (s .entry))) (calls.elect (sourceGroup (now (source .entry)) (now (group .entry))) tag (readyIn (now (ready .entry)))) (calls.electReply r) (segmentIn (now (s .entry))) ⌝ }
-{
-    flow_election::elect_source_group(&s[..SETTINGS], &s[SETTINGS..], source, group, tag, ready)
-}
-
-// The same for the multicast flow (*,G), by the octets of G: 18 unless G is of 4 or of 16 octets.
-pub fn elect_any_source(s: &[u32], group: &[u8], tag: u32, ready: &[u32]) -> Answer
-    requires { ⌜ ValidSegment (now s) ⌝ }
-    ensures answer { λ r. ⌜ r ≡ electWith (segmentIn (now (s .entry)) .settings) (anySource (now (group .entry))) (segmentIn (now (s .entry)) .table .esi) (segmentIn (now (s .entry)) .table .entries) tag (readyIn (now (ready .entry))) ⌝ }
-    ensures counted { λ r. ⌜ r .n ≡ ones (r .candidates) ⌝ }
-    ensures none_named { λ r. ⌜ NoneNamed (segmentIn (now (s .entry)) .settings) (anySource (now (group .entry))) (segmentIn (now (s .entry)) .table .entries) tag (readyIn (now (ready .entry))) r ⌝ }
-    ensures forwarder { λ r. ⌜ (r .number ≡ 0 → Forwarder (methodOf (segmentIn (now (s .entry)) .settings) (anySource (now (group .entry))) (segmentIn (now (s .entry)) .table .esi) (segmentIn (now (s .entry)) .table .entries) tag) (candidatesOf (segmentIn (now (s .entry)) .settings) (segmentIn (now (s .entry)) .table .entries) (readyIn (now (ready .entry)))) tag r) ⌝ }
-    ensures call { λ r. ⌜ calls.replyTo (segmentIn (now (s .entry))) (calls.elect (anySource (now (group .entry))) tag (readyIn (now (ready .entry)))) ≡ calls.electReply r ⌝ }
-    ensures follows { λ r. ⌜ Follows (segmentIn (now (s .entry))) (calls.elect (anySource (now (group .entry))) tag (readyIn (now (ready .entry)))) (calls.electReply r) (segmentIn (now (s .entry))) ⌝ }
-{
-    flow_election::elect_any_source(&s[..SETTINGS], &s[SETTINGS..], group, tag, ready)
 }
 
 // What a returning router advertises: 15 for an own algorithm that is not 2 or 3, 6 for address zero.

@@ -2,9 +2,9 @@
 use native.Mathlib.Omega.{arith}
 use borrow.Author.Needs.{needs}
 use Rattle.segment_state.proofs.Laws.{length-state, settings-part, valid-settings-part}
-use Rattle.segment.proofs.Told.{numbers-told}
-use Rattle.segment.proofs.set_flow_algorithms.Statement.{statement}
-use Rattle.segment.proofs.set_flow_algorithms.Tie as tie
+use Rattle.flow_calls.proofs.Told.{numbers-told}
+use Rattle.flow_calls.proofs.set_flow_algorithms.Statement.{statement}
+use Rattle.flow_calls.proofs.set_flow_algorithms.Tie as tie
 
 returns : tie.Need-returns
 returns c =

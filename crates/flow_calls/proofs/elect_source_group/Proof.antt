@@ -10,8 +10,8 @@ use Rattle.segment_state.proofs.Laws.{length-state, settings-part, valid-settin
 use Rattle.election.specs.Queries.{sourceGroup}
 use Rattle.demand3.proofs.Calls.{elect-replies}
 use Rattle.demand3.proofs.Demand3.{elect-follows}
-use Rattle.segment.proofs.elect_source_group.Statement.{statement}
-use Rattle.segment.proofs.elect_source_group.Tie as tie
+use Rattle.flow_calls.proofs.elect_source_group.Statement.{statement}
+use Rattle.flow_calls.proofs.elect_source_group.Tie as tie
 
 returns : tie.Need-returns
 unfolding segmentIn

@@ -10,8 +10,8 @@ use Rattle.segment_state.proofs.Laws.{length-state, settings-part, valid-settin
 use Rattle.election.specs.Queries.{anySource}
 use Rattle.demand3.proofs.Calls.{elect-replies}
 use Rattle.demand3.proofs.Demand3.{elect-follows}
-use Rattle.segment.proofs.elect_any_source.Statement.{statement}
-use Rattle.segment.proofs.elect_any_source.Tie as tie
+use Rattle.flow_calls.proofs.elect_any_source.Statement.{statement}
+use Rattle.flow_calls.proofs.elect_any_source.Tie as tie
 
 returns : tie.Need-returns
 unfolding segmentIn
