@@ -10,7 +10,7 @@ use lib.ListN.{length, getD, length-append, take-append-drop}
 use lib.Seq.{take-all}
 use lib.Dec.{eqb}
 use borrow.Author.Tests.{eq-eqb, ne-eqb, le-leb, lt-leb}
-use Rattle.election.specs.declared.Answer.{Answer}
+use Rattle.answers.specs.declared.Answer.{Answer}
 use Rattle.lists.proofs.Bools.{cond-by}
 use Rattle.octets.specs.Octets.{octetsOf}
 use Rattle.octets.proofs.Laws.{octets-octets, length-octets, elements, take-elements, stored-fits}

@@ -18,7 +18,7 @@ use lib.ListN.{length, getD}
 use lib.Dec.{leb, eqb}
 use Rattle.octets.specs.Octets.{octetsOf, stored}
 use Rattle.address.specs.Address.{octetsIn}
-use Rattle.election.specs.declared.Answer.{Answer}
+use Rattle.answers.specs.declared.Answer.{Answer}
 use Rattle.lines.specs.Lines.{decimal, dotted, hex}
 
 unfoldable pub line : ℕ → ℕ → List ℕ

@@ -8,10 +8,10 @@ use Rattle.address.specs.declared.Address.{Address}
 use Rattle.address.specs.declared.Family.the-variants.{V4, V6}
 use Rattle.circuit_layout.specs.declared.Scope.{Scope}
 use Rattle.circuit_layout.specs.declared.Scope.the-variants.{Segment, Instance}
-use Rattle.election.specs.declared.Answer as election
+use Rattle.answers.specs.declared.Answer as answers
 use Rattle.export_forms.specs.declared.Answer.{Answer}
 
-abbrev pub exportedAnswer : election.Answer → Answer
+abbrev pub exportedAnswer : answers.Answer → Answer
 exportedAnswer a = record { number = a .number; family = a .family; address = a .address; algorithm = a .algorithm; n = a .n; candidates = a .candidates }
 
 abbrev pub handedIn : Bool → ℕ → ℕ → ℕ → ℕ → Address

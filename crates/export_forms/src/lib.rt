@@ -1,7 +1,7 @@
 // What the exported calls of both tables hand in and hand back: an address of plain numbers, and the answer of an election laid out as C lays it out.
 use address::Address;
 use address::Family;
-use election::Answer as Elected;
+use answers::Answer as Elected;
 ghost use mathlib.Core.Path.{_≡_};
 ghost use Rattle.export_forms.specs.Forms.{exportedAnswer, handedIn};
 

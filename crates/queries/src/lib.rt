@@ -22,7 +22,8 @@ pub fn query(t: &[u32], v6: bool, payload: &[u8], out: &mut [u8], at: usize) -> 
     let mut ready = [0u32; READY_WORDS];
     payloads::put_rows(&mut ready, rest, v6);
     let n = rest.len() / payloads::size(v6) * WIDTH;
-    let answer = election::elect(t, tag, &ready[..n]);
+    let none = settings::fresh();
+    let answer = election::elect(t, &none, tag, &ready[..n]);
     let end = query_lines::put_answer(out, at, answer);
     Step {
         phase: Phase::Running,

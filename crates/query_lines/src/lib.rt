@@ -1,5 +1,5 @@
 // The answer line of a bench query (document 01, "The bench program"), put into a lent buffer: a refusal as every other line, else the elected address and N.
-use election::Answer;
+use answers::Answer;
 ghost use Prim.Native.Nat.{_+_, _≤_};
 ghost use lib.ListN.{length};
 ghost use Rattle.lines.specs.Lines.{Put};

@@ -15,8 +15,10 @@ use Rattle.route.specs.Route.{totalOf}
 use Rattle.layout.specs.Table.{Table}
 use Rattle.table.specs.Table.{freshTable, announced, withdrawn, Told}
 use Rattle.layout.specs.Words.{tableIn, Valid}
-use Rattle.election.specs.declared.Answer.{Answer}
-use Rattle.election.specs.Election.{electOf}
+use Rattle.settings.specs.Settings.{Settings, noneSet}
+use Rattle.answers.specs.declared.Answer.{Answer}
+use Rattle.election.specs.Queries.{plain, electWith}
+use Rattle.election.proofs.Laws.{elect-none}
 use Rattle.answer_lines.specs.AnswerLines.{line, readLine, queryLine, Written}
 use Rattle.answer_lines.proofs.Laws.{written-as}
 use Rattle.payloads.specs.Payloads.{addressOf, addressesIn}
@@ -72,12 +74,15 @@ module _ {d : List ℕ} {at n : ℕ} {e : List ℕ} where
           kept = subst Valid (sym c) k;
         }
 
-  pub stepped-query : (v : List ℕ) (s : Bool) (p : List ℕ) (x : Answer) (tag : ℕ) (ready : List (List ℕ)) → tag ≡ numberOf (take 4 p) → ready ≡ addressesIn s (drop 4 p)
-      → x ≡ electOf (tableIn v .esi) (tableIn v .entries) tag ready → Valid v → Written d at (queryLine x) n e
+  pub stepped-query : (v : List ℕ) (s : Bool) (p : List ℕ) (x : Answer) (tag : ℕ) (ready : List (List ℕ)) {o : Settings} → tag ≡ numberOf (take 4 p) → ready ≡ addressesIn s (drop 4 p)
+      → o ≡ noneSet → x ≡ electWith o plain (tableIn v .esi) (tableIn v .entries) tag ready → Valid v → Written d at (queryLine x) n e
       → Stepped d at (queryTurn (tableIn v) s p) (record { phase = Running; at = n }) v e
   unfolding queryTurn
-  stepped-query v s p x tag ready g l q k w =
-      record { put = written-as w (ap queryLine (q ∙ rw (g, l))); next = refl; kept = k }
+  stepped-query v s p x tag ready g l m q k w =
+      let i = tableIn v .esi in
+      let es = tableIn v .entries in
+      let none = ap (λ (y : Settings). electWith y plain i es tag ready) m ∙ elect-none i es tag ready in
+      record { put = written-as w (ap queryLine (q ∙ none ∙ rw (g, l))); next = refl; kept = k }
 
 -- the same step, said of another turn
 pub stepped-as : {d : List ℕ} {at : ℕ} {u v : Turn} {r : Step} {w e : List ℕ} → Stepped d at u r w e → u ≡ v → Stepped d at v r w e

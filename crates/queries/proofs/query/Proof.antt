@@ -60,20 +60,22 @@ mul-n : tie.Need-mul-n
 mul-n c = record { fits = omega (arith, few c) }
 
 array-share-prefix-ready : tie.Need-array-share-prefix-ready
-array-share-prefix-ready c = omega (arith, few c, room c)
+array-share-prefix-ready c = let z = c .before .before in omega (arith, few z, room z)
 
-slice-aggregate-elect : tie.Need-slice-aggregate-elect
-slice-aggregate-elect c = let z = c .before in sym (length-take-le (n z * 5) (words z) (omega (arith, few z, room z)))
+slice-aggregate-elect-2 : tie.Need-slice-aggregate-elect-2
+slice-aggregate-elect-2 c = let z = c .before .before .before in sym (length-take-le (n z * 5) (words z) (omega (arith, few z, room z)))
 
 returns : tie.Need-returns
 returns c =
     let told = c .before .before in
     let el = told .before .before in
-    let z = el .before .before in
+    let none = el .before .before .before in
+    let z = none .before in
     let u = z .before .before .before .before .before in
     stepped-query (start z .args .t .now) (v z) (p z) (el .elect .result) (u .u32-of .result) _
     (u .u32-of .ensures ∙ ap numberOf (four-front (p z) (start z .pre .1)))
     (ready-is z)
+    (none .fresh .ensures .0)
     (el .elect .ensures .0)
     (start z .pre .3)
     (told .put-answer .ensures)
@@ -95,8 +97,10 @@ query-spec =
     (λ c κs. search needs)
     div-n
     mul-n
+    (λ c κs. search needs)
+    (λ c. search needs)
     array-share-prefix-ready
-    slice-aggregate-elect
+    slice-aggregate-elect-2
     (λ c κs. search needs)
     (λ c κs. search needs)
     (λ c. search needs)
