@@ -6,10 +6,10 @@ use segment::Scope;
 ghost use mathlib.Core.Path.{_≡_};
 ghost use mathlib.Core.List.{[]};
 ghost use Rattle.address.specs.Address.{addressRow};
-ghost use Rattle.layout.specs.Words.{tableIn, Valid};
+ghost use Rattle.segment_state.specs.State.{segmentIn, ValidSegment};
 ghost use Rattle.circuit_layout.specs.Circuits.{circuitsIn, ValidCircuits};
 ghost use Rattle.circuits.specs.Changes.{adAnnounced, adWithdrawn, AdTold};
-ghost use Rattle.election.specs.Election.{electOver};
+ghost use Rattle.circuit_election.specs.Over.{electOver};
 ghost use Rattle.export_forms.specs.Forms.{exportedAnswer, handedIn, scopeOf};
 
 // What a route is announced for: one tag, or a whole segment.
@@ -76,10 +76,10 @@ pub extern "C" fn circuits_withdraw(
 
 // `segment::elect_by_circuits`.
 #[no_mangle]
-pub extern "C" fn segment_elect_by_circuits(t: &[u32], c: &[u32], tag: u32) -> Answer
-    requires { ⌜ Valid (now t) × ValidCircuits (now c) ⌝ }
-    ensures { λ r. ⌜ r ≡ exportedAnswer (electOver (tableIn (now (t .entry)) .esi) (tableIn (now (t .entry)) .entries) (circuitsIn (now (c .entry))) tag) ⌝ }
+pub extern "C" fn segment_elect_by_circuits(s: &[u32], c: &[u32], tag: u32) -> Answer
+    requires { ⌜ ValidSegment (now s) × ValidCircuits (now c) ⌝ }
+    ensures { λ r. ⌜ r ≡ exportedAnswer (electOver (segmentIn (now (s .entry)) .settings) (segmentIn (now (s .entry)) .table .esi) (segmentIn (now (s .entry)) .table .entries) (circuitsIn (now (c .entry))) tag) ⌝ }
 {
-    let a = segment::elect_by_circuits(t, c, tag);
+    let a = segment::elect_by_circuits(s, c, tag);
     export_forms::exported(a)
 }

@@ -5,7 +5,7 @@ use example_tables::route_of;
 use example_tables::router;
 use segment::Scope;
 use vector_lines::show_number;
-ghost use Rattle.layout.specs.Words.{Valid};
+ghost use Rattle.segment_state.specs.State.{ValidSegment};
 ghost use Rattle.circuit_layout.specs.Circuits.{ValidCircuits};
 
 // The two tags of the example.
@@ -15,8 +15,8 @@ const SECOND: u32 = 200;
 
 // Router n announces its segment route, with the default algorithm and AC-DF.
 fn join(t: &mut [u32], n: u8)
-    requires { ⌜ Valid (now t) ⌝ }
-    ensures { λ _. ⌜ Valid (now (t .exit)) ⌝ }
+    requires { ⌜ ValidSegment (now t) ⌝ }
+    ensures { λ _. ⌜ ValidSegment (now (t .exit)) ⌝ }
 {
     let octets = route_of(n);
     let mut community = [0u8; 8];
@@ -26,7 +26,7 @@ fn join(t: &mut [u32], n: u8)
 
 // A segment of the routers 1 to 3.
 fn three_routers() -> Table
-    ensures { λ r. ⌜ Valid (r .words) ⌝ }
+    ensures { λ r. ⌜ ValidSegment (r .words) ⌝ }
 {
     let empty = empty_table();
     let mut words = empty.words;
@@ -48,7 +48,7 @@ fn come_up(c: &mut [u32], n: u8)
 
 // Prints the router that is elected for a tag, 0 for none, and N, beside what they should be.
 fn show(name: &[u8], t: &[u32], c: &[u32], tag: u32, wanted: u64, wanted_n: u64)
-    requires { ⌜ Valid (now t) × ValidCircuits (now c) ⌝ }
+    requires { ⌜ ValidSegment (now t) × ValidCircuits (now c) ⌝ }
 {
     let answer = segment::elect_by_circuits(t, c, tag);
     let address = answer.address;
@@ -58,7 +58,7 @@ fn show(name: &[u8], t: &[u32], c: &[u32], tag: u32, wanted: u64, wanted_n: u64)
 
 // All three come up.
 fn all_up(t: &[u32], c: &mut [u32])
-    requires { ⌜ Valid (now t) × ValidCircuits (now c) ⌝ }
+    requires { ⌜ ValidSegment (now t) × ValidCircuits (now c) ⌝ }
     ensures { λ _. ⌜ ValidCircuits (now (c .exit)) ⌝ }
 {
     show(b"no A-D route stands", t, c, FIRST, 0, 0);
@@ -71,7 +71,7 @@ fn all_up(t: &[u32], c: &mut [u32])
 
 // Router 2 loses its circuit for one tag.
 fn circuit_down(t: &[u32], c: &mut [u32])
-    requires { ⌜ Valid (now t) × ValidCircuits (now c) ⌝ }
+    requires { ⌜ ValidSegment (now t) × ValidCircuits (now c) ⌝ }
     ensures { λ _. ⌜ ValidCircuits (now (c .exit)) ⌝ }
 {
     segment::withdraw_circuit(c, Scope::Instance(FIRST), router(2));
@@ -81,7 +81,7 @@ fn circuit_down(t: &[u32], c: &mut [u32])
 
 // Router 3 loses its link to the site, and gets it back: its per-instance routes stood all the time.
 fn link_down(t: &[u32], c: &mut [u32])
-    requires { ⌜ Valid (now t) × ValidCircuits (now c) ⌝ }
+    requires { ⌜ ValidSegment (now t) × ValidCircuits (now c) ⌝ }
     ensures { λ _. ⌜ ValidCircuits (now (c .exit)) ⌝ }
 {
     segment::withdraw_circuit(c, Scope::Segment, router(3));
@@ -104,7 +104,7 @@ fn numbers(c: &mut [u32])
 
 // The whole example, upon a fresh table of A-D routes.
 fn play(t: &[u32])
-    requires { ⌜ Valid (now t) ⌝ }
+    requires { ⌜ ValidSegment (now t) ⌝ }
 {
     let mut c = segment::fresh_circuits();
     all_up(t, &mut c);

@@ -1,8 +1,8 @@
-// The tables of the programs that run outside values, all of one segment: router n has the address 10.0.0.n.
+// The tables of the programs that run outside values, all of one segment: router n has the address 10.0.0.n. Each is a segment's state, with none set.
 use address::Address;
 use address::Family;
-use table::WORDS;
-ghost use Rattle.layout.specs.Words.{Valid};
+use segment::WORDS;
+ghost use Rattle.segment_state.specs.State.{ValidSegment};
 
 // 10.0.0.0
 const NETWORK: u32 = 0x0A000000;
@@ -37,11 +37,11 @@ pub struct Change {
 
 // An empty table.
 pub fn empty_table() -> Table
-    ensures { λ r. ⌜ Valid (r .words) ⌝ }
+    ensures { λ r. ⌜ ValidSegment (r .words) ⌝ }
 {
     let esi = identifier();
     let made = segment::fresh(&esi);
-    let words = made.table;
+    let words = made.state;
     Table { words: words }
 }
 
@@ -56,8 +56,8 @@ pub fn route_of(n: u8) -> [u8; 25] {
 
 // Router n announces a preference and a DP bit under an algorithm.
 pub fn announce(t: Table, n: u8, algorithm: u8, preference: u16, dp: bool) -> Change
-    requires { ⌜ Valid (t .words) ⌝ }
-    ensures { λ r. ⌜ Valid (r .table .words) ⌝ }
+    requires { ⌜ ValidSegment (t .words) ⌝ }
+    ensures { λ r. ⌜ ValidSegment (r .table .words) ⌝ }
 {
     let octets = route_of(n);
     let mut community = [0u8; 8];
@@ -73,8 +73,8 @@ pub fn announce(t: Table, n: u8, algorithm: u8, preference: u16, dp: bool) -> Ch
 
 // The table after router n announced; a refusal leaves it as it was.
 pub fn with(t: Table, n: u8, algorithm: u8, preference: u16, dp: bool) -> Table
-    requires { ⌜ Valid (t .words) ⌝ }
-    ensures { λ r. ⌜ Valid (r .words) ⌝ }
+    requires { ⌜ ValidSegment (t .words) ⌝ }
+    ensures { λ r. ⌜ ValidSegment (r .words) ⌝ }
 {
     let change = announce(t, n, algorithm, preference, dp);
     change.table
@@ -82,8 +82,8 @@ pub fn with(t: Table, n: u8, algorithm: u8, preference: u16, dp: bool) -> Table
 
 // The table without router n.
 pub fn without(t: Table, n: u8) -> Table
-    requires { ⌜ Valid (t .words) ⌝ }
-    ensures { λ r. ⌜ Valid (r .words) ⌝ }
+    requires { ⌜ ValidSegment (t .words) ⌝ }
+    ensures { λ r. ⌜ ValidSegment (r .words) ⌝ }
 {
     let mut words = t.words;
     segment::withdraw(&mut words, router(n));
@@ -92,7 +92,7 @@ pub fn without(t: Table, n: u8) -> Table
 
 // The number of the router that is elected for a tag, with an empty ready list; 0 if none is.
 pub fn elected(t: Table, tag: u32) -> u64
-    requires { ⌜ Valid (t .words) ⌝ }
+    requires { ⌜ ValidSegment (t .words) ⌝ }
 {
     let none = [0u32; 1];
     let words = t.words;
@@ -103,7 +103,7 @@ pub fn elected(t: Table, tag: u32) -> u64
 
 // The number that an election answers.
 pub fn refusal(t: Table, tag: u32) -> u64
-    requires { ⌜ Valid (t .words) ⌝ }
+    requires { ⌜ ValidSegment (t .words) ⌝ }
 {
     let none = [0u32; 1];
     let words = t.words;
@@ -119,7 +119,7 @@ pub const LOWEST: u8 = 3;
 
 // vES2 of RFC 9785, section 4.1: 100 in PE1, 200 in PE2, 300 in PE3.
 pub fn second_segment(algorithm: u8, dp: bool) -> Table
-    ensures { λ r. ⌜ Valid (r .words) ⌝ }
+    ensures { λ r. ⌜ ValidSegment (r .words) ⌝ }
 {
     let mut t = with(empty_table(), 1, algorithm, 100, dp);
     t = with(t, 2, algorithm, 200, dp);

@@ -1,14 +1,14 @@
 // One call to a function, for programs in Rust: benchmarks/ counts and times these, and its tests compare their answers with independent ones.
-// They are not for a daemon: nothing tests that the words lent are those of a table (`Valid`), which benchmarks/src/proved.rs sees to by a type.
+// They are not for a daemon: nothing tests that the words lent are those of a segment's state (`ValidSegment`), which benchmarks/src/proved.rs sees to by a type.
 use export_forms::Answer;
-use table::WORDS;
+use segment::WORDS;
 ghost use mathlib.Core.Path.{_≡_};
 ghost use Rattle.address.specs.Address.{addressRow};
 ghost use Rattle.ready.specs.Ready.{readyIn};
-ghost use Rattle.table.specs.Table.{freshTable, announced, withdrawn, Told};
-ghost use Rattle.layout.specs.Words.{tableIn, Valid};
+ghost use Rattle.table.specs.Table.{freshTable, announced, withdrawn};
+ghost use Rattle.segment_state.specs.State.{freshSegment, segmentIn, ValidSegment, SegmentTold};
 ghost use Rattle.hrw.specs.Weight.{digestOf};
-ghost use Rattle.election.specs.Election.{electOf};
+ghost use Rattle.election.specs.Queries.{plain, electWith};
 ghost use Rattle.returning.specs.Returning.{returningOf};
 ghost use Rattle.export_forms.specs.Forms.{exportedAnswer, handedIn};
 ghost use Rattle.exports.specs.Exports.{sentOf};
@@ -27,26 +27,26 @@ pub struct Sent {
     pub dp: bool,
 }
 
-// `segment::fresh`, its table put into the words lent.
+// `segment::fresh`, its state put into the words lent.
 #[no_mangle]
-pub extern "C" fn segment_fresh(t: &mut [u32; WORDS], esi: &[u8]) -> u8
-    ensures answer { λ r. ⌜ Told (freshTable (now (esi .entry))) r 0 (now (t .exit)) ⌝ }
-    ensures kept { λ _. ⌜ Valid (now (t .exit)) ⌝ }
+pub extern "C" fn segment_fresh(s: &mut [u32; WORDS], esi: &[u8]) -> u8
+    ensures answer { λ r. ⌜ (r ≡ freshTable (now (esi .entry)) .number) × (segmentIn (now (s .exit)) ≡ freshSegment (now (esi .entry))) ⌝ }
+    ensures kept { λ _. ⌜ ValidSegment (now (s .exit)) ⌝ }
 {
     let made = segment::fresh(esi);
-    let words = made.table;
-    *t = words;
+    let words = made.state;
+    *s = words;
     made.number
 }
 
 // `segment::announce`.
 #[no_mangle]
-pub extern "C" fn segment_announce(t: &mut [u32], route: &[u8], communities: &[u8]) -> Verdict
-    requires { ⌜ Valid (now t) ⌝ }
-    ensures answer { λ r. ⌜ Told (announced (tableIn (now (t .entry))) (now (route .entry)) (now (communities .entry))) (r .number) (r .offset) (now (t .exit)) ⌝ }
-    ensures kept { λ _. ⌜ Valid (now (t .exit)) ⌝ }
+pub extern "C" fn segment_announce(s: &mut [u32], route: &[u8], communities: &[u8]) -> Verdict
+    requires { ⌜ ValidSegment (now s) ⌝ }
+    ensures answer { λ r. ⌜ SegmentTold (announced (segmentIn (now (s .entry)) .table) (now (route .entry)) (now (communities .entry))) (segmentIn (now (s .entry)) .settings) (r .number) (r .offset) (now (s .exit)) ⌝ }
+    ensures kept { λ _. ⌜ ValidSegment (now (s .exit)) ⌝ }
 {
-    let told = segment::announce(t, route, communities);
+    let told = segment::announce(s, route, communities);
     Verdict {
         number: told.number,
         offset: told.offset,
@@ -56,35 +56,35 @@ pub extern "C" fn segment_announce(t: &mut [u32], route: &[u8], communities: &[u
 // `segment::withdraw`.
 #[no_mangle]
 pub extern "C" fn segment_withdraw(
-    t: &mut [u32],
+    s: &mut [u32],
     v6: bool,
     w0: u32,
     w1: u32,
     w2: u32,
     w3: u32,
 ) -> u8
-    requires { ⌜ Valid (now t) ⌝ }
-    ensures answer { λ r. ⌜ Told (withdrawn (tableIn (now (t .entry))) (addressRow (handedIn v6 w0 w1 w2 w3))) r 0 (now (t .exit)) ⌝ }
-    ensures kept { λ _. ⌜ Valid (now (t .exit)) ⌝ }
+    requires { ⌜ ValidSegment (now s) ⌝ }
+    ensures answer { λ r. ⌜ SegmentTold (withdrawn (segmentIn (now (s .entry)) .table) (addressRow (handedIn v6 w0 w1 w2 w3))) (segmentIn (now (s .entry)) .settings) r 0 (now (s .exit)) ⌝ }
+    ensures kept { λ _. ⌜ ValidSegment (now (s .exit)) ⌝ }
 {
     let address = export_forms::handed_in(v6, w0, w1, w2, w3);
-    segment::withdraw(t, address)
+    segment::withdraw(s, address)
 }
 
 // `segment::elect`.
 #[no_mangle]
-pub extern "C" fn segment_elect(t: &[u32], tag: u32, ready: &[u32]) -> Answer
-    requires { ⌜ Valid (now t) ⌝ }
-    ensures { λ r. ⌜ r ≡ exportedAnswer (electOf (tableIn (now (t .entry)) .esi) (tableIn (now (t .entry)) .entries) tag (readyIn (now (ready .entry)))) ⌝ }
+pub extern "C" fn segment_elect(s: &[u32], tag: u32, ready: &[u32]) -> Answer
+    requires { ⌜ ValidSegment (now s) ⌝ }
+    ensures { λ r. ⌜ r ≡ exportedAnswer (electWith (segmentIn (now (s .entry)) .settings) plain (segmentIn (now (s .entry)) .table .esi) (segmentIn (now (s .entry)) .table .entries) tag (readyIn (now (ready .entry)))) ⌝ }
 {
-    let a = segment::elect(t, tag, ready);
+    let a = segment::elect(s, tag, ready);
     export_forms::exported(a)
 }
 
 // `segment::returning`.
 #[no_mangle]
 pub extern "C" fn segment_returning(
-    t: &[u32],
+    s: &[u32],
     v6: bool,
     w0: u32,
     w1: u32,
@@ -94,15 +94,15 @@ pub extern "C" fn segment_returning(
     preference: u16,
     dp: bool,
 ) -> Sent
-    requires { ⌜ Valid (now t) ⌝ }
-    ensures { λ r. ⌜ r ≡ sentOf (returningOf (tableIn (now (t .entry)) .entries) (addressRow (handedIn v6 w0 w1 w2 w3)) algorithm preference dp) ⌝ }
+    requires { ⌜ ValidSegment (now s) ⌝ }
+    ensures { λ r. ⌜ r ≡ sentOf (returningOf (segmentIn (now (s .entry)) .table .entries) (addressRow (handedIn v6 w0 w1 w2 w3)) algorithm preference dp) ⌝ }
 {
     let address = export_forms::handed_in(v6, w0, w1, w2, w3);
-    let s = segment::returning(t, address, algorithm, preference, dp);
+    let told = segment::returning(s, address, algorithm, preference, dp);
     Sent {
-        number: s.number,
-        preference: s.preference,
-        dp: s.dp,
+        number: told.number,
+        preference: told.preference,
+        dp: told.dp,
     }
 }
 

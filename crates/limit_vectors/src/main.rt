@@ -7,7 +7,7 @@ use example_tables::refusal;
 use example_tables::with;
 use example_tables::without;
 use vector_lines::show_number;
-ghost use Rattle.layout.specs.Words.{Valid};
+ghost use Rattle.segment_state.specs.State.{ValidSegment};
 
 // Reserved tags.
 fn tags() {
@@ -21,7 +21,7 @@ fn tags() {
 
 // A table of the routers 1 to 64.
 fn sixty_four() -> Table
-    ensures { λ r. ⌜ Valid (r .words) ⌝ }
+    ensures { λ r. ⌜ ValidSegment (r .words) ⌝ }
 {
     let mut t = empty_table();
     let mut n = 1;

@@ -10,11 +10,11 @@ use example_tables::with;
 use example_tables::without;
 use vector_lines::show_number;
 use vector_lines::show_pair;
-ghost use Rattle.layout.specs.Words.{Valid};
+ghost use Rattle.segment_state.specs.State.{ValidSegment};
 
 // vES1: 500 in PE1, 255 in PE2.
 fn first_segment(algorithm: u8) -> Table
-    ensures { λ r. ⌜ Valid (r .words) ⌝ }
+    ensures { λ r. ⌜ ValidSegment (r .words) ⌝ }
 {
     let t = with(empty_table(), 1, algorithm, 500, false);
     with(t, 2, algorithm, 255, false)
@@ -77,7 +77,7 @@ fn maintenance() {
 
 // Two routers with the preference 500; the second one's DP bit is given.
 fn tied(algorithm: u8, dp: bool) -> Table
-    ensures { λ r. ⌜ Valid (r .words) ⌝ }
+    ensures { λ r. ⌜ ValidSegment (r .words) ⌝ }
 {
     let t = with(empty_table(), 1, algorithm, 500, false);
     with(t, 2, algorithm, 500, dp)

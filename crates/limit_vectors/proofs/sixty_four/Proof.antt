@@ -1,12 +1,12 @@
 -- `sixty_four` meets its contract: every announcement leaves a table that the calls made. Assumes nothing.
 use Prim.Native.Nat.{_-_}
 use native.Mathlib.Omega.{arith}
-use Rattle.layout.specs.Words.{Valid}
+use Rattle.segment_state.specs.State.{ValidSegment}
 use Rattle.limit_vectors.proofs.sixty_four.Statement.{statement}
 use Rattle.limit_vectors.proofs.sixty_four.Tie as tie
 
 abbrev Inv-loop : tie.InvT-loop
-Inv-loop t₀ n₀ t n = Valid (t .words)
+Inv-loop t₀ n₀ t n = ValidSegment (t .words)
 
 abbrev μ-loop : tie.MeasureT-loop
 μ-loop t₀ n₀ t n = 65 - n
