@@ -313,11 +313,21 @@ impl Table {
         fours.len() + place
     }
 
+    /// The algorithm and the AC-DF bit in use by the election of a flow, or of none.
+    #[inline(always)]
+    fn in_use(&self, flow: Flow) -> (u8, bool) {
+        let (algorithm, ac_df) = carried(self.live());
+        match self.flow_algorithms.in_use(algorithm, flow) {
+            Some(algorithm) => (algorithm, ac_df),
+            None => (0, false),
+        }
+    }
+
     /// The election of a flow, or of none, for a tag that is not reserved. The set of those that are ready is asked for only with AC-DF in use.
     #[inline(always)]
     fn elected<R: FnOnce() -> u64>(&self, tag: u32, flow: Flow, ready_set: R) -> Answer {
         let attributes = self.live();
-        let (algorithm, ac_df) = in_use(attributes, self.flow_algorithms, flow);
+        let (algorithm, ac_df) = self.in_use(flow);
         let set = if ac_df {
             ready_set()
         } else {
@@ -363,9 +373,8 @@ fn levels(count: usize) -> u32 {
     usize::BITS - count.leading_zeros()
 }
 
-/// The algorithm and the AC-DF bit in use by an election of a flow, or of none.
-#[inline(always)]
-fn in_use(attributes: &[u32], set: FlowAlgorithms, flow: Flow) -> (u8, bool) {
+/// The algorithm and the AC-DF bit that all routes carry; without one, 0 and none.
+fn carried(attributes: &[u32]) -> (u8, bool) {
     let Some(first) = attributes.first() else {
         return (0, false);
     };
@@ -375,10 +384,7 @@ fn in_use(attributes: &[u32], set: FlowAlgorithms, flow: Flow) -> (u8, bool) {
     if differing > LOW {
         return (0, false);
     }
-    match set.in_use(algorithm_in(*first), flow) {
-        Some(algorithm) => (algorithm, first >> KIND_SHIFT & 1 != 0),
-        None => (0, false),
-    }
+    (algorithm_in(*first), first >> KIND_SHIFT & 1 != 0)
 }
 
 /// Whether any of these carries another algorithm.

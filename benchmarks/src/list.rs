@@ -138,15 +138,16 @@ impl List {
             return Answer::refused(12);
         };
         let first = first.election;
+        let Some(algorithm) = self.flow_algorithms.in_use(first.algorithm, flow) else {
+            return self.by_modulus(tag, self.routes.count() as u32, self.all());
+        };
         let is_ready = first.ac_df.then(ready);
-        let algorithm = self.flow_algorithms.in_use(first.algorithm, flow);
         let mut best: Option<&Route> = None;
         let (agreed, candidates) = match algorithm {
-            None => (false, 0),
-            Some(0) => self.walk(first, is_ready, |_| {}),
-            Some(2) => self.walk(first, is_ready, |route| keep::<false>(&mut best, route)),
-            Some(3) => self.walk(first, is_ready, |route| keep::<true>(&mut best, route)),
-            Some(algorithm) => {
+            0 => self.walk(first, is_ready, |_| {}),
+            2 => self.walk(first, is_ready, |route| keep::<false>(&mut best, route)),
+            3 => self.walk(first, is_ready, |route| keep::<true>(&mut best, route)),
+            _ => {
                 let digest = flow.digest(algorithm, tag, &self.esi);
                 let mut top = 0;
                 self.walk(first, is_ready, |route| {
@@ -162,7 +163,7 @@ impl List {
         match best {
             _ if !agreed => self.by_modulus(tag, self.routes.count() as u32, self.all()),
             _ if n == 0 => Answer::refused(12),
-            Some(route) => answer(route, algorithm.unwrap_or(0), n, candidates),
+            Some(route) => answer(route, algorithm, n, candidates),
             None => self.by_modulus(tag, n, candidates),
         }
     }
