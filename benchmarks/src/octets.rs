@@ -277,9 +277,13 @@ fn digest_after(crc: u32, tag: u32, esi: &[u8; 10]) -> u32 {
 
 /// The CRC register after octets whose number is a multiple of four.
 #[inline(always)]
-fn crc_fours(crc: u32, octets: &[u8]) -> u32 {
-    let fours = octets.as_chunks::<4>().0.iter();
-    fours.fold(crc, |crc, four| four.iter().copied().fold(crc, crc_octet))
+fn crc_fours(mut crc: u32, octets: &[u8]) -> u32 {
+    for four in octets.as_chunks::<4>().0 {
+        for octet in four {
+            crc = crc_octet(crc, *octet);
+        }
+    }
+    crc
 }
 
 /// The CRC register after one octet more.
