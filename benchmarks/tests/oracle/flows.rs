@@ -233,7 +233,7 @@ struct Pool {
     ac_df: bool,
     /// One route in so many carries something else.
     stray: usize,
-    /// The pair of numbers that a call sets next, when it takes the next of all: a place among 256 and the numbers around it.
+    /// The octet that was handed in last where each has its turn.
     next: u8,
 }
 
