@@ -1,11 +1,11 @@
-//! Links the archives of the proved calls, which `rt staticlib exports` and `rt staticlib circuit_exports` write.
+//! Links the archives of the proved calls, which `rt staticlib` writes: one of `exports`, one of `circuit_exports` and one of `flow_exports`.
 
 use std::path::Path;
 
 fn main() {
     let folder = Path::new(env!("CARGO_MANIFEST_DIR")).join("../target/staticlib");
     println!("cargo::rustc-link-search=native={}", folder.display());
-    for name in ["exports", "circuit_exports"] {
+    for name in ["exports", "circuit_exports", "flow_exports"] {
         let archive = folder.join(format!("lib{name}.a"));
         assert!(archive.exists(), "first: rt staticlib {name}");
         println!("cargo::rerun-if-changed={}", archive.display());

@@ -1,6 +1,6 @@
 //! The calls that every side of a comparison has, and their answers. Document 01, "The table", "The election", "The returning router"; document 02,
-//! M-102 for the Ethernet A-D routes, M-103 for the place and M-105 for addresses of both families. The structs that are answered are laid out as in
-//! C, so that the proved calls can answer them.
+//! M-102 for the Ethernet A-D routes, M-103 for the place, M-105 for addresses of both families and M-106 for elections by multicast flow. The structs
+//! that are answered are laid out as in C, so that the proved calls can answer them.
 
 /// The words of a row of a ready list: the family, 4 or 6, then the words of an address. A row of another family is a stranger; words after the last
 /// whole row are no row.
@@ -148,15 +148,24 @@ pub trait Segment {
     /// The empty table of the all-zero identifier.
     fn empty() -> Self;
 
-    /// Makes this the fresh table of an identifier. For a reserved one: 4, and the empty table of the all-zero one.
+    /// Makes this the fresh table of an identifier, with no algorithm numbers set. For a reserved one: 4, and the empty table of the all-zero one.
     fn fresh(&mut self, esi: &[u8]) -> u8;
 
     fn announce(&mut self, route: &[u8], communities: &[u8]) -> Verdict;
 
     fn withdraw(&mut self, address: Address) -> u8;
 
+    /// Sets the algorithm numbers of the elections by flow, for (S,G) and for (*,G).
+    fn set_flow_algorithms(&mut self, source_group: u8, any_source: u8) -> u8;
+
     /// The ready list is a run of rows of words.
     fn elect(&self, tag: u32, ready: &[u32]) -> Answer;
+
+    /// The election for a flow (S,G), by the octets of its source and its group.
+    fn elect_source_group(&self, source: &[u8], group: &[u8], tag: u32, ready: &[u32]) -> Answer;
+
+    /// The election for a flow (*,G), by the octets of its group.
+    fn elect_any_source(&self, group: &[u8], tag: u32, ready: &[u32]) -> Answer;
 
     /// The election over both tables.
     fn elect_by_circuits(&self, circuits: &Self::Circuits, tag: u32) -> Answer;

@@ -10,7 +10,7 @@ mod circuits;
 pub use circuits::Circuits;
 
 use crate::answer::{Address, Answer, Segment, Sent, Verdict, ROW_WORDS};
-use crate::octets::{self, Election, Number, MAX_ROUTES, TOO_MANY_READY};
+use crate::octets::{self, Election, Flow, FlowAlgorithms, Number, MAX_ROUTES};
 
 const LAST: usize = MAX_ROUTES - 1;
 /// So many items and fewer are moved one by one, more as a block.
@@ -21,6 +21,7 @@ pub struct Table {
     v4: Column<u32>,
     v6: Column<u128>,
     attributes: [u32; MAX_ROUTES],
+    flow_algorithms: FlowAlgorithms,
 }
 
 /// The addresses of one family as rising numbers.
@@ -312,11 +313,21 @@ impl Table {
         fours.len() + place
     }
 
-    /// The election for a tag that is not reserved. The set of those that are ready is asked for only with AC-DF in use.
+    /// The algorithm and the AC-DF bit in use by the election of a flow, or of none.
     #[inline(always)]
-    fn elected<R: FnOnce() -> u64>(&self, tag: u32, ready_set: R) -> Answer {
+    fn in_use(&self, flow: Flow) -> (u8, bool) {
+        let (algorithm, ac_df) = carried(self.live());
+        match self.flow_algorithms.in_use(algorithm, flow) {
+            Some(algorithm) => (algorithm, ac_df),
+            None => (0, false),
+        }
+    }
+
+    /// The election of a flow, or of none, for a tag that is not reserved. The set of those that are ready is asked for only with AC-DF in use.
+    #[inline(always)]
+    fn elected<R: FnOnce() -> u64>(&self, tag: u32, flow: Flow, ready_set: R) -> Answer {
         let attributes = self.live();
-        let (algorithm, ac_df) = in_use(attributes);
+        let (algorithm, ac_df) = self.in_use(flow);
         let set = if ac_df {
             ready_set()
         } else {
@@ -330,9 +341,9 @@ impl Table {
         let place = match algorithm {
             0 if full => (tag % n) as usize,
             0 => nth(set, tag % n),
-            1 => self.heaviest::<R>(set, full, octets::digest(tag, &self.esi)),
             2 => best_narrow(attributes, set, full, higher),
-            _ => best_narrow(attributes, set, full, lower),
+            3 => best_narrow(attributes, set, full, lower),
+            _ => self.heaviest::<R>(set, full, flow.digest(algorithm, tag, &self.esi)),
         };
         let (family, address) = self.number_at(place).answered();
         Answer {
@@ -362,15 +373,15 @@ fn levels(count: usize) -> u32 {
     usize::BITS - count.leading_zeros()
 }
 
-/// The algorithm and the AC-DF bit in use.
-fn in_use(attributes: &[u32]) -> (u8, bool) {
+/// The algorithm and the AC-DF bit that all routes carry; without one, 0 and none.
+fn carried(attributes: &[u32]) -> (u8, bool) {
     let Some(first) = attributes.first() else {
         return (0, false);
     };
     let differing = attributes
         .iter()
         .fold(0, |bits, word| bits | (word ^ first));
-    if differing > LOW || algorithm_in(*first) > 3 {
+    if differing > LOW {
         return (0, false);
     }
     (algorithm_in(*first), first >> KIND_SHIFT & 1 != 0)
@@ -445,6 +456,7 @@ impl Segment for Table {
             v4: Column::EMPTY,
             v6: Column::EMPTY,
             attributes: [0; MAX_ROUTES],
+            flow_algorithms: FlowAlgorithms::default(),
         }
     }
 
@@ -454,6 +466,7 @@ impl Segment for Table {
         self.v4 = Column::EMPTY;
         self.v6 = Column::EMPTY;
         self.attributes = [0; MAX_ROUTES];
+        self.flow_algorithms = FlowAlgorithms::default();
         if octets::is_reserved(esi) {
             return 4;
         }
@@ -498,14 +511,44 @@ impl Segment for Table {
     }
 
     #[inline]
+    fn set_flow_algorithms(&mut self, source_group: u8, any_source: u8) -> u8 {
+        self.flow_algorithms.set(source_group, any_source)
+    }
+
+    #[inline]
     fn elect(&self, tag: u32, ready: &[u32]) -> Answer {
-        if tag == 0 || tag == u32::MAX {
-            return Answer::refused(10);
+        if let Err(refused) = octets::check_election(tag, ready) {
+            return Answer::refused(refused);
         }
-        if ready.len() >= TOO_MANY_READY {
-            return Answer::refused(11);
+        self.elected(tag, Flow::NONE, || self.ready_set(ready))
+    }
+
+    #[inline]
+    fn elect_source_group(&self, source: &[u8], group: &[u8], tag: u32, ready: &[u32]) -> Answer {
+        let checked = octets::check_election(tag, ready);
+        if let Err(refused) = checked.and_then(|()| octets::check_source_group(source, group)) {
+            return Answer::refused(refused);
         }
-        self.elected(tag, || self.ready_set(ready))
+        let flow = Flow {
+            number: self.flow_algorithms.source_group,
+            source,
+            group,
+        };
+        self.elected(tag, flow, || self.ready_set(ready))
+    }
+
+    #[inline]
+    fn elect_any_source(&self, group: &[u8], tag: u32, ready: &[u32]) -> Answer {
+        let checked = octets::check_election(tag, ready);
+        if let Err(refused) = checked.and_then(|()| octets::check_group(group)) {
+            return Answer::refused(refused);
+        }
+        let flow = Flow {
+            number: self.flow_algorithms.any_source,
+            source: &[],
+            group,
+        };
+        self.elected(tag, flow, || self.ready_set(ready))
     }
 
     #[inline]
@@ -513,7 +556,7 @@ impl Segment for Table {
         if tag == 0 || tag == u32::MAX {
             return Answer::refused(10);
         }
-        self.elected(tag, || circuits.ready_set(self, tag))
+        self.elected(tag, Flow::NONE, || circuits.ready_set(self, tag))
     }
 
     #[inline]

@@ -27,8 +27,23 @@ impl<T: Segment> Segment for Called<T> {
     }
 
     #[inline(never)]
+    fn set_flow_algorithms(&mut self, source_group: u8, any_source: u8) -> u8 {
+        self.0.set_flow_algorithms(source_group, any_source)
+    }
+
+    #[inline(never)]
     fn elect(&self, tag: u32, ready: &[u32]) -> Answer {
         self.0.elect(tag, ready)
+    }
+
+    #[inline(never)]
+    fn elect_source_group(&self, source: &[u8], group: &[u8], tag: u32, ready: &[u32]) -> Answer {
+        self.0.elect_source_group(source, group, tag, ready)
+    }
+
+    #[inline(never)]
+    fn elect_any_source(&self, group: &[u8], tag: u32, ready: &[u32]) -> Answer {
+        self.0.elect_any_source(group, tag, ready)
     }
 
     #[inline(never)]

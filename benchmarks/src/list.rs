@@ -9,7 +9,7 @@ mod circuits;
 pub use circuits::Circuits;
 
 use crate::answer::{Address, Answer, Segment, Sent, Verdict, ROW_WORDS};
-use crate::octets::{self, Election, Number, MAX_ROUTES, TOO_MANY_READY};
+use crate::octets::{self, Election, Flow, FlowAlgorithms, Number, MAX_ROUTES};
 use chain::{Chain, Node};
 use std::ptr;
 
@@ -61,6 +61,7 @@ struct Route {
 pub struct List {
     esi: [u8; 10],
     routes: Chain<Route>,
+    flow_algorithms: FlowAlgorithms,
 }
 
 impl List {
@@ -124,19 +125,30 @@ impl List {
         (agreed, candidates)
     }
 
-    /// The election for a tag that is not reserved. With AC-DF what says who is ready is asked for, and then about one route after the other.
+    /// The election of a flow, or of none, for a tag that is not reserved. With AC-DF what says who is ready is asked for, and then about one route after
+    /// the other.
     #[inline(always)]
-    fn elected<F: FnMut(&Key) -> bool>(&self, tag: u32, ready: impl FnOnce() -> F) -> Answer {
+    fn elected<F: FnMut(&Key) -> bool>(
+        &self,
+        tag: u32,
+        flow: Flow,
+        ready: impl FnOnce() -> F,
+    ) -> Answer {
         let Some(first) = self.routes.items().next() else {
             return Answer::refused(12);
         };
         let first = first.election;
+        let Some(algorithm) = self.flow_algorithms.in_use(first.algorithm, flow) else {
+            return self.by_modulus(tag, self.routes.count() as u32, self.all());
+        };
         let is_ready = first.ac_df.then(ready);
         let mut best: Option<&Route> = None;
-        let (agreed, candidates) = match first.algorithm {
+        let (agreed, candidates) = match algorithm {
             0 => self.walk(first, is_ready, |_| {}),
-            1 => {
-                let digest = octets::digest(tag, &self.esi);
+            2 => self.walk(first, is_ready, |route| keep::<false>(&mut best, route)),
+            3 => self.walk(first, is_ready, |route| keep::<true>(&mut best, route)),
+            _ => {
+                let digest = flow.digest(algorithm, tag, &self.esi);
                 let mut top = 0;
                 self.walk(first, is_ready, |route| {
                     let weight = octets::weight(route.key.address().low_word(), digest);
@@ -145,16 +157,13 @@ impl List {
                     }
                 })
             }
-            2 => self.walk(first, is_ready, |route| keep::<false>(&mut best, route)),
-            3 => self.walk(first, is_ready, |route| keep::<true>(&mut best, route)),
-            _ => (false, 0),
         };
 
         let n = candidates.count_ones();
         match best {
             _ if !agreed => self.by_modulus(tag, self.routes.count() as u32, self.all()),
             _ if n == 0 => Answer::refused(12),
-            Some(route) => answer(route, first.algorithm, n, candidates),
+            Some(route) => answer(route, algorithm, n, candidates),
             None => self.by_modulus(tag, n, candidates),
         }
     }
@@ -245,6 +254,7 @@ impl Segment for List {
         List {
             esi: [0; 10],
             routes: Chain::new(),
+            flow_algorithms: FlowAlgorithms::default(),
         }
     }
 
@@ -301,14 +311,44 @@ impl Segment for List {
     }
 
     #[inline]
+    fn set_flow_algorithms(&mut self, source_group: u8, any_source: u8) -> u8 {
+        self.flow_algorithms.set(source_group, any_source)
+    }
+
+    #[inline]
     fn elect(&self, tag: u32, ready: &[u32]) -> Answer {
-        if tag == 0 || tag == u32::MAX {
-            return Answer::refused(10);
+        if let Err(refused) = octets::check_election(tag, ready) {
+            return Answer::refused(refused);
         }
-        if ready.len() >= TOO_MANY_READY {
-            return Answer::refused(11);
+        self.elected(tag, Flow::NONE, || |key: &Key| is_listed(key, ready))
+    }
+
+    #[inline]
+    fn elect_source_group(&self, source: &[u8], group: &[u8], tag: u32, ready: &[u32]) -> Answer {
+        let checked = octets::check_election(tag, ready);
+        if let Err(refused) = checked.and_then(|()| octets::check_source_group(source, group)) {
+            return Answer::refused(refused);
         }
-        self.elected(tag, || |key: &Key| is_listed(key, ready))
+        let flow = Flow {
+            number: self.flow_algorithms.source_group,
+            source,
+            group,
+        };
+        self.elected(tag, flow, || |key: &Key| is_listed(key, ready))
+    }
+
+    #[inline]
+    fn elect_any_source(&self, group: &[u8], tag: u32, ready: &[u32]) -> Answer {
+        let checked = octets::check_election(tag, ready);
+        if let Err(refused) = checked.and_then(|()| octets::check_group(group)) {
+            return Answer::refused(refused);
+        }
+        let flow = Flow {
+            number: self.flow_algorithms.any_source,
+            source: &[],
+            group,
+        };
+        self.elected(tag, flow, || |key: &Key| is_listed(key, ready))
     }
 
     #[inline]
@@ -316,7 +356,7 @@ impl Segment for List {
         if tag == 0 || tag == u32::MAX {
             return Answer::refused(10);
         }
-        self.elected(tag, || circuits.is_ready(tag))
+        self.elected(tag, Flow::NONE, || circuits.is_ready(tag))
     }
 
     #[inline]

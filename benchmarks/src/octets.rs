@@ -1,4 +1,5 @@
-//! What both baselines read from octets and words in the same way: addresses, the route's checks, the list of communities, the digest and the weight.
+//! What both baselines read from octets and words in the same way: addresses, the route's checks, the list of communities, the checks of an election, the
+//! algorithm numbers of the elections by flow, the digests and the weight.
 //! The CRC goes octet by octet through a static table of 256 entries, in both baselines.
 
 use crate::answer::{Address, Circuit, Family, Verdict, CIRCUIT_WORDS, ROW_WORDS};
@@ -7,7 +8,7 @@ pub const MAX_ROUTES: usize = 64;
 pub const MAX_READY: usize = 64;
 pub const MAX_CIRCUITS: usize = 256;
 /// From so many words on a ready list has more rows than it may.
-pub const TOO_MANY_READY: usize = (MAX_READY + 1) * ROW_WORDS;
+const TOO_MANY_READY: usize = (MAX_READY + 1) * ROW_WORDS;
 
 const MAX_COMMUNITIES: usize = 256;
 const MULTIPLIER: u32 = 1_103_515_245;
@@ -70,6 +71,97 @@ pub struct Election {
     pub ac_df: bool,
     pub dp: bool,
     pub preference: u16,
+}
+
+/// The algorithm numbers of the elections by flow; both are 0 where none are set.
+#[derive(Clone, Copy, Debug, Default, PartialEq, Eq)]
+pub struct FlowAlgorithms {
+    pub source_group: u8,
+    pub any_source: u8,
+}
+
+impl FlowAlgorithms {
+    /// Two different numbers from 4 to 30 are set; with others the old ones are kept.
+    #[inline]
+    pub fn set(&mut self, source_group: u8, any_source: u8) -> u8 {
+        let usable = 4..=30;
+        let differ = source_group != any_source;
+        if !(usable.contains(&source_group) && usable.contains(&any_source) && differ) {
+            return 15;
+        }
+        *self = FlowAlgorithms {
+            source_group,
+            any_source,
+        };
+        0
+    }
+
+    /// What an election goes by where all routes carry an algorithm: that one if it is 0 to 3, or the number of the flow's own kind; 1 if it is another
+    /// number that is set. None where no election goes by it.
+    #[inline(always)]
+    pub fn in_use(self, carried: u8, flow: Flow) -> Option<u8> {
+        if carried <= 3 || carried == flow.number {
+            return Some(carried);
+        }
+        (carried == self.source_group || carried == self.any_source).then_some(1)
+    }
+}
+
+/// A multicast flow, by the octets of its source and its group, and the algorithm number that is set for its kind. Of a flow (*,G) the source is empty.
+#[derive(Clone, Copy)]
+pub struct Flow<'a> {
+    pub number: u8,
+    pub source: &'a [u8],
+    pub group: &'a [u8],
+}
+
+impl Flow<'_> {
+    /// What a plain election is for.
+    pub const NONE: Flow<'static> = Flow {
+        number: 0,
+        source: &[],
+        group: &[],
+    };
+
+    /// The digest that routers are weighed by under an algorithm in use: 1, or the number of the flow's kind.
+    #[inline(always)]
+    pub fn digest(self, algorithm: u8, tag: u32, esi: &[u8; 10]) -> u32 {
+        if algorithm == 1 {
+            return digest(tag, esi);
+        }
+        let crc = crc_fours(crc_fours(u32::MAX, self.source), self.group);
+        digest_after(crc, tag, esi)
+    }
+}
+
+/// The checks of every election: a reserved tag, 10; a ready list over 64, 11.
+#[inline(always)]
+pub fn check_election(tag: u32, ready: &[u32]) -> Result<(), u8> {
+    if tag == 0 || tag == u32::MAX {
+        return Err(10);
+    }
+    if ready.len() >= TOO_MANY_READY {
+        return Err(11);
+    }
+    Ok(())
+}
+
+/// The check of a group: 4 octets or 16; else 18.
+#[inline(always)]
+pub fn check_group(group: &[u8]) -> Result<(), u8> {
+    if group.len() != 4 && group.len() != 16 {
+        return Err(18);
+    }
+    Ok(())
+}
+
+/// The check of a source and a group: both of 4 octets, or both of 16; else 18.
+#[inline(always)]
+pub fn check_source_group(source: &[u8], group: &[u8]) -> Result<(), u8> {
+    if source.len() != group.len() {
+        return Err(18);
+    }
+    check_group(group)
 }
 
 /// The tag by which a baseline keeps an Ethernet A-D route, 0 for a per-segment one, and its address; or the first check that refuses it.
@@ -171,13 +263,33 @@ fn read_community(one: &[u8]) -> Election {
 /// The digest D of a tag on a segment.
 #[inline]
 pub fn digest(tag: u32, esi: &[u8; 10]) -> u32 {
+    digest_after(u32::MAX, tag, esi)
+}
+
+/// The digest from the CRC register on that a tag and an identifier find.
+#[inline(always)]
+fn digest_after(crc: u32, tag: u32, esi: &[u8; 10]) -> u32 {
     let mut octets = [0; 14];
     octets[..4].copy_from_slice(&tag.to_be_bytes());
     octets[4..].copy_from_slice(esi);
-    let crc = octets.iter().fold(u32::MAX, |crc, octet| {
-        (crc >> 8) ^ CRC_TABLE[usize::from(crc as u8 ^ octet)]
-    });
-    !crc & LOW_31_BITS
+    !octets.into_iter().fold(crc, crc_octet) & LOW_31_BITS
+}
+
+/// The CRC register after octets whose number is a multiple of four.
+#[inline(always)]
+fn crc_fours(mut crc: u32, octets: &[u8]) -> u32 {
+    for four in octets.as_chunks::<4>().0 {
+        for octet in four {
+            crc = crc_octet(crc, *octet);
+        }
+    }
+    crc
+}
+
+/// The CRC register after one octet more.
+#[inline(always)]
+fn crc_octet(crc: u32, octet: u8) -> u32 {
+    (crc >> 8) ^ CRC_TABLE[usize::from(crc as u8 ^ octet)]
 }
 
 /// The weight of an address under a digest, by the address's low word: only the low 31 bits of each product count.

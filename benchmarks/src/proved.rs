@@ -1,13 +1,14 @@
-//! The proved calls, as the crate `exports` hands them to C: a slice goes over as its start and its length.
+//! The proved calls, as the crates `exports`, `circuit_exports` and `flow_exports` hand them to C: a slice goes over as its start and its length.
 
 use crate::answer::{
     self, Address, Answer, Circuit, Family, Segment, Sent, Verdict, CIRCUIT_WORDS,
 };
 
-/// 64 rows of five words, the family and the address; 64 words of attributes; the count; the ten octets of the identifier.
-const WORDS: usize = 395;
+/// 64 rows of five words, the family and the address; 64 words of attributes; the count; the ten octets of the identifier. Then the algorithm numbers set
+/// for (S,G) and for (*,G), or zeros.
+pub const WORDS: usize = 395 + 2;
 
-/// The words of a table. Only the calls below write them, so they are always those of a table that the calls made: their premise (`Valid`).
+/// The words of a segment, its table and its settings. Only the calls below write them, so they are always those of a segment that the calls made: their premise.
 pub struct Table([u32; WORDS]);
 
 /// 256 rows of seven words, the kind, the tag, the family and the address; then the number of routes.
@@ -35,9 +36,35 @@ extern "C" {
         w2: u32,
         w3: u32,
     ) -> u8;
+    fn segment_set_flow_algorithms(
+        s: *mut u32,
+        s_length: usize,
+        source_group: u8,
+        any_source: u8,
+    ) -> u8;
     fn segment_elect(
         t: *const u32,
         t_length: usize,
+        tag: u32,
+        ready: *const u32,
+        ready_length: usize,
+    ) -> Answer;
+    fn segment_elect_source_group(
+        s: *const u32,
+        s_length: usize,
+        source: *const u8,
+        source_length: usize,
+        group: *const u8,
+        group_length: usize,
+        tag: u32,
+        ready: *const u32,
+        ready_length: usize,
+    ) -> Answer;
+    fn segment_elect_any_source(
+        s: *const u32,
+        s_length: usize,
+        group: *const u8,
+        group_length: usize,
         tag: u32,
         ready: *const u32,
         ready_length: usize,
@@ -88,12 +115,13 @@ extern "C" {
 }
 
 // SAFETY, of every call: what is lent is live for the call and has the length that goes over with it, the words are lent for writing where they are
-// written, and they are `Valid`.
+// written, and they are those of a segment that the calls made.
 impl Segment for Table {
     type Circuits = Circuits;
 
+    /// The words are no segment before the call that makes them one, and none of them is zero: one that the call leaves as it was will show.
     fn empty() -> Table {
-        let mut table = Table([0; WORDS]);
+        let mut table = Table([u32::MAX; WORDS]);
         table.fresh(&[]);
         table
     }
@@ -125,8 +153,46 @@ impl Segment for Table {
     }
 
     #[inline]
+    fn set_flow_algorithms(&mut self, source_group: u8, any_source: u8) -> u8 {
+        let s = self.0.as_mut_ptr();
+        unsafe { segment_set_flow_algorithms(s, WORDS, source_group, any_source) }
+    }
+
+    #[inline]
     fn elect(&self, tag: u32, ready: &[u32]) -> Answer {
         unsafe { segment_elect(self.0.as_ptr(), WORDS, tag, ready.as_ptr(), ready.len()) }
+    }
+
+    #[inline]
+    fn elect_source_group(&self, source: &[u8], group: &[u8], tag: u32, ready: &[u32]) -> Answer {
+        unsafe {
+            segment_elect_source_group(
+                self.0.as_ptr(),
+                WORDS,
+                source.as_ptr(),
+                source.len(),
+                group.as_ptr(),
+                group.len(),
+                tag,
+                ready.as_ptr(),
+                ready.len(),
+            )
+        }
+    }
+
+    #[inline]
+    fn elect_any_source(&self, group: &[u8], tag: u32, ready: &[u32]) -> Answer {
+        unsafe {
+            segment_elect_any_source(
+                self.0.as_ptr(),
+                WORDS,
+                group.as_ptr(),
+                group.len(),
+                tag,
+                ready.as_ptr(),
+                ready.len(),
+            )
+        }
     }
 
     #[inline]
@@ -158,6 +224,13 @@ impl Segment for Table {
     #[inline]
     fn digest(tag: u32, esi: &[u8; 10]) -> u32 {
         unsafe { segment_digest(tag, esi.as_ptr()) }
+    }
+}
+
+impl Table {
+    /// All its words.
+    pub fn words(&self) -> &[u32; WORDS] {
+        &self.0
     }
 }
 

@@ -2,7 +2,7 @@
 //! a hearer: one keeps them all, for the comparison of the sides; the other only sees that the compiler leaves none out.
 
 use crate::answer::{Address, Circuit, Circuits, Segment};
-use crate::workload::{self, Families, Run, ESI};
+use crate::workload::{self, Families, Flow, Run, ESI, FLOW_ALGORITHMS};
 use std::fmt::Debug;
 use std::hint::black_box;
 
@@ -23,6 +23,18 @@ pub enum Work {
     },
     /// A round: the election for the next tag, from 1 on. The ready list is rows of words.
     Elect { runs: Vec<Run>, ready: Vec<u32> },
+    /// A round: the election for the next tag, from 1 on, and the next of the flows, each (S,G).
+    ElectSourceGroup {
+        runs: Vec<Run>,
+        flows: Vec<Flow>,
+        ready: Vec<u32>,
+    },
+    /// The same, each (*,G): its source has no part.
+    ElectAnySource {
+        runs: Vec<Run>,
+        flows: Vec<Flow>,
+        ready: Vec<u32>,
+    },
     /// A round: the election over both tables for the next of the tags.
     ElectByCircuits {
         runs: Vec<Run>,
@@ -73,6 +85,14 @@ fn loaded<T: Segment>(runs: &[Run]) -> T {
     table
 }
 
+/// The same with the numbers of the elections by flow set.
+fn loaded_for_flows<T: Segment>(runs: &[Run]) -> T {
+    let mut table: T = loaded(runs);
+    let [source_group, any_source] = FLOW_ALGORITHMS;
+    table.set_flow_algorithms(source_group, any_source);
+    table
+}
+
 /// Does a number of rounds. After rounds that change their table, the election for tag 1 with all of them ready is heard too.
 pub fn rounds<T: Segment>(work: &Work, rounds: u32, hearer: &mut impl Hearer) {
     match work {
@@ -120,6 +140,21 @@ pub fn rounds<T: Segment>(work: &Work, rounds: u32, hearer: &mut impl Hearer) {
             let table: T = loaded(runs);
             for tag in 1..=rounds {
                 hearer.hear(table.elect(black_box(tag), black_box(ready)));
+            }
+        }
+        Work::ElectSourceGroup { runs, flows, ready } => {
+            let table: T = loaded_for_flows(runs);
+            for (tag, flow) in (1..=rounds).zip(flows.iter().cycle()) {
+                let (tag, ready) = (black_box(tag), black_box(ready));
+                let Flow { source, group } = black_box(flow);
+                hearer.hear(table.elect_source_group(source, group, tag, ready));
+            }
+        }
+        Work::ElectAnySource { runs, flows, ready } => {
+            let table: T = loaded_for_flows(runs);
+            for (tag, flow) in (1..=rounds).zip(flows.iter().cycle()) {
+                let (tag, ready) = (black_box(tag), black_box(ready));
+                hearer.hear(table.elect_any_source(&black_box(flow).group, tag, ready));
             }
         }
         Work::ElectByCircuits {

@@ -1,10 +1,13 @@
-//! Routes, communities and ready lists, the same in every run. IPv4 addresses are 10.x.y.z and IPv6 ones 2001:db8::x:y, scattered in the low 24 bits and
-//! handed over in no order.
+//! Routes, communities, ready lists and multicast flows, the same in every run. IPv4 addresses are 10.x.y.z and IPv6 ones 2001:db8::x:y, scattered in the
+//! low 24 bits and handed over in no order.
 
 use crate::answer::{Address, Circuit, Family};
 use crate::random::Random;
 
 pub const ESI: [u8; 10] = [0x00, 0x11, 0x22, 0x33, 0x44, 0x55, 0x66, 0x77, 0x88, 0x99];
+
+/// The algorithm numbers that are set for (S,G) and for (*,G): those of source document 002.
+pub const FLOW_ALGORITHMS: [u8; 2] = [4, 5];
 
 /// Which addresses routers have; of a mixed table's every other one is IPv6.
 #[derive(Clone, Copy, Debug, PartialEq, Eq, PartialOrd, Ord)]
@@ -20,6 +23,12 @@ pub struct Run {
     pub route: Vec<u8>,
     pub communities: Vec<u8>,
     pub address: Address,
+}
+
+/// A multicast flow, by the octets of its source and its group. They are vectors, as above.
+pub struct Flow {
+    pub source: Vec<u8>,
+    pub group: Vec<u8>,
 }
 
 /// The octets of an address, 4 or 16.
@@ -113,4 +122,23 @@ pub fn circuits(addresses: &[Address], tags: &[u32]) -> Vec<Circuit> {
     };
     let segments = addresses.iter().copied().map(Circuit::per_segment);
     segments.chain(tags.iter().flat_map(of_tag)).collect()
+}
+
+/// Flows from sources below 10.0.0.0/8 or 2001:db8::/104 to groups below 232.0.0.0/8 or ff3e::/104.
+pub fn flows(n: usize, family: Family, random: &mut Random) -> Vec<Flow> {
+    let (families, prefix) = match family {
+        Family::V4 => (Families::V4, &[232][..]),
+        Family::V6 => (Families::V6, &[0xFF, 0x3E, 0, 0][..]),
+    };
+    let sources = addresses(n, families, random);
+    let groups = addresses(n, families, random);
+    let flow = |(source, group): (&Address, &Address)| {
+        let mut group = octets(*group);
+        group[..prefix.len()].copy_from_slice(prefix);
+        Flow {
+            source: octets(*source),
+            group,
+        }
+    };
+    sources.iter().zip(&groups).map(flow).collect()
 }

@@ -1,8 +1,10 @@
 //! Every side against the reference of tests/: the same random calls, the same answers, call by call. What the Ethernet A-D routes add is in
-//! `oracle/circuits.rs`.
+//! `oracle/circuits.rs`, and what the elections by multicast flow add in `oracle/flows.rs`.
 
 #[path = "oracle/circuits.rs"]
 mod circuits;
+#[path = "oracle/flows.rs"]
+mod flows;
 
 use benchmarks::answer::{Address, Answer, Family, Segment, Sent, Verdict};
 use benchmarks::random::Random;

@@ -37,11 +37,14 @@ def weight(number, digest_value):
     return (MULTIPLIER * inner + INCREMENT) % 2**31
 
 
-def elect(addresses, tag, esi):
+def heaviest(addresses, digest_value):
     """The address of greatest weight; of equal weights the lowest address."""
-    value = digest(tag, esi)
-    best = max(weight(number, value) for _, number in addresses)
-    return min(address for address in addresses if weight(address[1], value) == best)
+    best = max(weight(number, digest_value) for _, number in addresses)
+    return min(address for address in addresses if weight(address[1], digest_value) == best)
+
+
+def elect(addresses, tag, esi):
+    return heaviest(addresses, digest(tag, esi))
 
 
 def octets_of(address):
@@ -61,12 +64,20 @@ def record(kind, body):
     return bytes([0xD5, 0x4F, kind, len(body)]) + body
 
 
-def announcement(esi, address, ac_df):
+def route_of(esi, address):
+    """The octets of a route, 25 or 37."""
     octets = octets_of(address)
     rest = bytes(8) + esi + bytes([8 * len(octets)]) + octets
-    route = bytes([4, len(rest)]) + rest
-    capability = 0x40 if ac_df else 0x00
-    return record(1, route + bytes([6, 6, 1, capability, 0, 0, 0, 0]))
+    return bytes([4, len(rest)]) + rest
+
+
+def community_of(algorithm, ac_df):
+    """The 8 octets of an election community, without DP or a preference."""
+    return bytes([6, 6, algorithm, 0x40 if ac_df else 0x00, 0, 0, 0, 0])
+
+
+def announcement(esi, address, ac_df):
+    return record(1, route_of(esi, address) + community_of(1, ac_df))
 
 
 def query(family, tag, ready):

@@ -300,7 +300,7 @@ impl Tally {
     ) {
         let (number, family, n) = beside.elect(tag, place);
         let entries = beside.table.entries();
-        let (_, ac_df) = reference::election::algorithm_in_use(entries);
+        let (_, ac_df) = reference::election::algorithm_in_use(&beside.table);
         self.elected[0] += usize::from(family == 4);
         self.elected[1] += usize::from(family == 6);
         self.reserved += usize::from(number == 10);

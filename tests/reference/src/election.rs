@@ -1,5 +1,5 @@
 //! The election for one Ethernet Tag. Document 01, "The election"; document 02, M-105 (addresses
-//! of both families).
+//! of both families) and M-106 (agreement on a number that the operator set).
 
 use crate::address::{Address, ROW_WORDS};
 use crate::community::{HIGHEST_PREFERENCE, LOWEST_PREFERENCE};
@@ -27,47 +27,83 @@ pub fn is_reserved(tag: u32) -> bool {
     tag == 0 || tag == u32::MAX
 }
 
+/// A ready list as it is handed in: how many members it has, and those of them that are addresses.
+pub(crate) struct Ready {
+    listed: usize,
+    addresses: Vec<Address>,
+}
+
+impl Ready {
+    pub(crate) fn of(addresses: &[Address]) -> Ready {
+        Ready {
+            listed: addresses.len(),
+            addresses: addresses.to_vec(),
+        }
+    }
+
+    /// A list as the library takes it: rows of five words. A row of a family other than 4 and 6 is
+    /// a stranger, and counts as a row; words after the last whole row are none.
+    pub(crate) fn in_rows(words: &[u32]) -> Ready {
+        let rows: Vec<&[u32; ROW_WORDS]> = words
+            .chunks_exact(ROW_WORDS)
+            .filter_map(|row| row.try_into().ok())
+            .collect();
+        let addresses = rows.iter().filter_map(|row| Address::from_row(row));
+        Ready {
+            listed: rows.len(),
+            addresses: addresses.collect(),
+        }
+    }
+}
+
 /// Elects for a tag. Reserved tag, 10; ready list over 64, 11; no eligible router, 12.
 pub fn elect(table: &Table, tag: u32, ready: &[Address]) -> Result<Election, Refusal> {
-    elect_listed(table, tag, ready.len(), ready)
+    elect_listed(table, tag, &Ready::of(ready))
 }
 
-/// The same with a ready list as the library takes it: rows of five words. A row of a family other
-/// than 4 and 6 is a stranger, and counts as a row; words after the last whole row are none.
+/// The same with a ready list of rows of words.
 pub fn elect_rows(table: &Table, tag: u32, words: &[u32]) -> Result<Election, Refusal> {
-    let rows: Vec<&[u32; ROW_WORDS]> = words
-        .chunks_exact(ROW_WORDS)
-        .filter_map(|row| row.try_into().ok())
-        .collect();
-    let ready: Vec<Address> = rows
-        .iter()
-        .filter_map(|row| Address::from_row(row))
-        .collect();
-    elect_listed(table, tag, rows.len(), &ready)
+    elect_listed(table, tag, &Ready::in_rows(words))
 }
 
-/// The election with a ready list of so many members, of which these are addresses.
-fn elect_listed(
-    table: &Table,
-    tag: u32,
-    listed: usize,
-    ready: &[Address],
-) -> Result<Election, Refusal> {
+/// What every election tests first. Reserved tag, 10; ready list over 64, 11.
+pub(crate) fn check(tag: u32, ready: &Ready) -> Result<(), Refusal> {
     if is_reserved(tag) {
         return Err(Refusal::ReservedTag);
     }
-    if listed > MAX_READY {
+    if ready.listed > MAX_READY {
         return Err(Refusal::ReadyLength);
     }
-    let (algorithm, ac_df) = algorithm_in_use(table.entries());
-    let candidates = candidate_set(table.entries(), ac_df, ready);
-    let eligible = members(table.entries(), candidates);
-    let winner = match algorithm {
-        HIGHEST_RANDOM_WEIGHT => by_weight(&eligible, hrw::digest(tag, table.esi())),
-        HIGHEST_PREFERENCE | LOWEST_PREFERENCE => by_preference(&eligible, algorithm),
-        _ => by_modulus(&eligible, tag),
+    Ok(())
+}
+
+/// The plain election. Under an agreement on a number that is set it uses algorithm 1.
+pub(crate) fn elect_listed(table: &Table, tag: u32, ready: &Ready) -> Result<Election, Refusal> {
+    check(tag, ready)?;
+    let (agreed, ac_df) = algorithm_in_use(table);
+    let algorithm = if agreed <= LOWEST_PREFERENCE {
+        agreed
+    } else {
+        HIGHEST_RANDOM_WEIGHT
     };
-    let winner = winner.ok_or(Refusal::NoEligible)?;
+    elect_among(table, algorithm, ac_df, ready, |eligible| match algorithm {
+        HIGHEST_RANDOM_WEIGHT => by_weight(eligible, hrw::digest(tag, table.esi())),
+        HIGHEST_PREFERENCE | LOWEST_PREFERENCE => by_preference(eligible, algorithm),
+        _ => by_modulus(eligible, tag),
+    })
+}
+
+/// The answer under an algorithm, whose rule says which of the eligible wins; none eligible, 12.
+pub(crate) fn elect_among(
+    table: &Table,
+    algorithm: u8,
+    ac_df: bool,
+    ready: &Ready,
+    rule: impl Fn(&[Entry]) -> Option<Entry>,
+) -> Result<Election, Refusal> {
+    let candidates = candidate_set(table.entries(), ac_df, &ready.addresses);
+    let eligible = members(table.entries(), candidates);
+    let winner = rule(&eligible).ok_or(Refusal::NoEligible)?;
     Ok(Election {
         address: winner.address,
         algorithm,
@@ -76,16 +112,20 @@ fn elect_listed(
     })
 }
 
-/// The algorithm in use and whether AC-DF is in use. All routes must carry one algorithm from
-/// 0 to 3 and one AC-DF bit; otherwise it is algorithm 0 without AC-DF.
-pub fn algorithm_in_use(entries: &[Entry]) -> (u8, bool) {
-    let Some(first) = entries.first() else {
+/// The algorithm in use and whether AC-DF is in use. All routes must carry one algorithm, from 0 to
+/// 3 or one of the numbers set, and one AC-DF bit; otherwise it is algorithm 0 without AC-DF.
+pub fn algorithm_in_use(table: &Table) -> (u8, bool) {
+    let Some(first) = table.entries().first() else {
         return (DEFAULT_ALGORITHM, false);
     };
-    let agreed = entries
+    let agreed = table
+        .entries()
         .iter()
         .all(|entry| entry.algorithm == first.algorithm && entry.ac_df == first.ac_df);
-    if agreed && first.algorithm <= LOWEST_PREFERENCE {
+    let set = table.flow_algorithms();
+    let usable = first.algorithm <= LOWEST_PREFERENCE
+        || set.is_some_and(|numbers| numbers.contains(first.algorithm));
+    if agreed && usable {
         (first.algorithm, first.ac_df)
     } else {
         (DEFAULT_ALGORITHM, false)
@@ -122,7 +162,7 @@ fn by_modulus(eligible: &[Entry], tag: u32) -> Option<Entry> {
 }
 
 /// Rule 1: greatest weight, then lowest address.
-fn by_weight(eligible: &[Entry], digest: u32) -> Option<Entry> {
+pub(crate) fn by_weight(eligible: &[Entry], digest: u32) -> Option<Entry> {
     eligible
         .iter()
         .copied()

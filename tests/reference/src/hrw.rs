@@ -1,5 +1,5 @@
 //! The highest random weight: CRC-32, digest and weight. Document 01, "The election", rule 1;
-//! document 02, M-105 (the number of an IPv6 address has 128 bits).
+//! document 02, M-105 (the number of an IPv6 address has 128 bits) and M-106 (the digest of a flow).
 
 use crate::address::Address;
 use crate::esi::Esi;
@@ -31,7 +31,13 @@ fn crc_bit(crc: u32) -> u32 {
 
 /// D: the CRC-32 of the tag in four octets, high first, and the ESI, with the top bit dropped.
 pub fn digest(tag: u32, esi: &Esi) -> u32 {
-    let mut octets = tag.to_be_bytes().to_vec();
+    digest_over(&[], tag, esi)
+}
+
+/// The same with the octets of a multicast flow before the tag.
+pub fn digest_over(flow: &[u8], tag: u32, esi: &Esi) -> u32 {
+    let mut octets = flow.to_vec();
+    octets.extend_from_slice(&tag.to_be_bytes());
     octets.extend_from_slice(esi);
     crc32(&octets) & 0x7FFF_FFFF
 }

@@ -1,4 +1,4 @@
-//! The refusal numbers of document 01 ("Refusal numbers"), one name each.
+//! The refusal numbers of document 01 ("Refusal numbers") and of document 02, one name each.
 
 /// Why a call was refused. `number` gives the document's number.
 #[derive(Clone, Copy, Debug, PartialEq, Eq)]
@@ -19,6 +19,7 @@ pub enum Refusal {
     ShortBuffer = 14,
     Algorithm = 15,
     BadRecord = 16,
+    FlowLength = 18,
 }
 
 impl Refusal {

@@ -1,9 +1,11 @@
-//! The routes of one segment, in rising address order. Document 01, "The table"; document 02,
-//! M-105 (addresses of both families).
+//! The routes of one segment, in rising address order, and the algorithm numbers that the operator
+//! set for elections by flow. Document 01, "The table"; document 02, M-105 (addresses of both
+//! families) and M-106 (the numbers).
 
 use crate::address::Address;
 use crate::community;
 use crate::esi::{self, Esi, ESI_LENGTH};
+use crate::flows::FlowAlgorithms;
 use crate::refusal::Refusal;
 use crate::route;
 
@@ -24,10 +26,12 @@ pub struct Entry {
 pub struct Table {
     esi: Esi,
     entries: Vec<Entry>,
+    flow_algorithms: Option<FlowAlgorithms>,
 }
 
 impl Table {
-    /// A fresh table. For a reserved identifier: 4, with an empty table of the all-zero one.
+    /// A fresh table, with no numbers set. For a reserved identifier: 4, with an empty table of the
+    /// all-zero one.
     pub fn fresh(esi: &[u8]) -> (Result<(), Refusal>, Table) {
         match esi::usable(esi) {
             Ok(esi) => (Ok(()), Table::empty(esi)),
@@ -39,6 +43,7 @@ impl Table {
         Table {
             esi,
             entries: Vec::new(),
+            flow_algorithms: None,
         }
     }
 
@@ -48,6 +53,18 @@ impl Table {
 
     pub fn entries(&self) -> &[Entry] {
         &self.entries
+    }
+
+    /// The numbers that were set last, if any were.
+    pub fn flow_algorithms(&self) -> Option<FlowAlgorithms> {
+        self.flow_algorithms
+    }
+
+    /// Sets the algorithm numbers for (S,G) and for (*,G). Others than two different ones from 4 to
+    /// 30, 15; then the old ones are kept.
+    pub fn set_flow_algorithms(&mut self, source_group: u8, any_source: u8) -> Result<(), Refusal> {
+        self.flow_algorithms = Some(FlowAlgorithms::of(source_group, any_source)?);
+        Ok(())
     }
 
     /// Where the address stands, or the place where it would go.

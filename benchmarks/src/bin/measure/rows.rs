@@ -1,10 +1,10 @@
 //! The rows of the table: a name, the routes and their families, rounds of calls, and the most that ours may cost.
 
 use crate::sides::SIDES;
-use benchmarks::answer::Address;
+use benchmarks::answer::{Address, Family};
 use benchmarks::random::Random;
 use benchmarks::rounds::Work;
-use benchmarks::workload::{self, Families, ESI};
+use benchmarks::workload::{self, Families, ESI, FLOW_ALGORITHMS};
 
 const SIZES: [usize; 4] = [2, 3, 8, 64];
 const FAMILIES: [Families; 3] = [Families::V4, Families::V6, Families::Mixed];
@@ -118,6 +118,9 @@ pub fn all() -> Vec<Row> {
             announcements(&mut rows, table);
             elections(&mut rows, table);
             elections_by_circuits(&mut rows, table);
+            if families == Families::V4 {
+                elections_by_flow(&mut rows, table);
+            }
             returning(&mut rows, table);
         }
     }
@@ -235,6 +238,34 @@ fn elections_by_circuits(rows: &mut Vec<Row>, table: Table) {
         };
         let name = format!("elect over both tables under {algorithm}");
         rows.push(row(&name, Some(table), every_call(table.families), work));
+    }
+}
+
+/// Elections by flow, where all routes agree on the number that is set for its kind. 64 flows have their turns.
+fn elections_by_flow(rows: &mut Vec<Row>, table: Table) {
+    let [source_group, any_source] = FLOW_ALGORITHMS;
+    let mut addresses = table.addresses(&mut Random(3));
+    let runs = |algorithm| workload::runs(&ESI, &addresses, algorithm, false, &mut Random(5));
+    let (of_source_group, of_any_source) = (runs(source_group), runs(any_source));
+    workload::sort(&mut addresses);
+    for (family, length) in [(Family::V4, 4), (Family::V6, 16)] {
+        let mut push = |kind, work| {
+            let name = format!("elect flow {kind} of {length} octets");
+            rows.push(row(&name, Some(table), every_call(table.families), work));
+        };
+        let flows = || workload::flows(64, family, &mut Random(6));
+        let both = Work::ElectSourceGroup {
+            runs: of_source_group.clone(),
+            flows: flows(),
+            ready: workload::rows(&addresses),
+        };
+        push("(S,G)", both);
+        let group = Work::ElectAnySource {
+            runs: of_any_source.clone(),
+            flows: flows(),
+            ready: workload::rows(&addresses),
+        };
+        push("(*,G)", group);
     }
 }
 

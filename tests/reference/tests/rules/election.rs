@@ -54,7 +54,7 @@ fn one_route_agrees_with_itself() {
             } else {
                 (0, false)
             };
-            assert_eq!(algorithm_in_use(table.entries()), expected);
+            assert_eq!(algorithm_in_use(&table), expected);
         }
     }
 }
@@ -71,7 +71,7 @@ fn every_pair_of_algorithms_and_bits() {
                 ]);
                 let agreed = first == second && left == right && first <= 3;
                 let expected = if agreed { (first, left) } else { (0, false) };
-                assert_eq!(algorithm_in_use(table.entries()), expected);
+                assert_eq!(algorithm_in_use(&table), expected);
             }
         }
     }

@@ -1,6 +1,6 @@
 //! The tests of the reference: every value of document 01, the worked examples of RFC 9785,
-//! the slips the document names, the order of every list of checks, lengths at their limits, and
-//! addresses of both families side by side.
+//! the slips the document names, the order of every list of checks, lengths at their limits,
+//! addresses of both families side by side, Ethernet A-D routes, and elections by flow.
 
 mod address;
 mod bench;
@@ -10,6 +10,7 @@ mod community;
 mod election;
 mod encode;
 mod esi;
+mod flows;
 mod hrw;
 mod returning;
 mod rfc9785;
