@@ -23,7 +23,7 @@ fn crc_octet(state: u32, x: u8) -> u32
     ensures { λ r. ⌜ r ≡ crcOctet state x ⌝ }
 {
     let mixed = state ^ (x as u32);
-    (mixed / 256) ^ crc::after_octet((mixed % 256) as u8)
+    (mixed / 256) ^ crc::after_octet(256 + mixed % 256)
 }
 
 // The CRC register after the octets of s, from any state of it.

@@ -1,6 +1,6 @@
 -- `after_octet` meets its contract: each arm is the register that its octet gives, computed. Assumes nothing.
 use Rattle.crc.specs.Crc.{crcBit, crcBits, crcOctet}
-use Rattle.crc.proofs.Arms.{arm, last-arm}
+use Rattle.crc.proofs.Arms.{arm, no-arm}
 use Rattle.crc.proofs.after_octet.Statement.{statement}
 use Rattle.crc.proofs.after_octet.Tie as tie
 
@@ -264,4 +264,5 @@ after-octet-spec =
     (λ c. arm (c .match .keys253))
     (λ c. arm (c .match .keys254))
     (λ c. arm (c .match .keys255))
-    (λ c. arm (last-arm _ (c .before .fits .x .fits) (c .match .rest))))
+    (λ c. arm (c .match .keys256))
+    (λ c. absurd (no-arm _ (c .before .pre .0) (c .before .pre .1) (c .match .rest))))
