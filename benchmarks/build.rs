@@ -1,11 +1,16 @@
-//! Links the archives of the proved calls, which `rt staticlib` writes: one of `exports`, one of `circuit_exports` and one of `flow_exports`.
+//! Links the archives of the proved calls, which `rt staticlib` writes: one of `exports`, one of `circuit_exports`, one of `flow_exports` and one of `any_source_exports`.
 
 use std::path::Path;
 
 fn main() {
     let folder = Path::new(env!("CARGO_MANIFEST_DIR")).join("../target/staticlib");
     println!("cargo::rustc-link-search=native={}", folder.display());
-    for name in ["exports", "circuit_exports", "flow_exports"] {
+    for name in [
+        "exports",
+        "circuit_exports",
+        "flow_exports",
+        "any_source_exports",
+    ] {
         let archive = folder.join(format!("lib{name}.a"));
         assert!(archive.exists(), "first: rt staticlib {name}");
         println!("cargo::rerun-if-changed={}", archive.display());

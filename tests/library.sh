@@ -1,5 +1,5 @@
 #!/usr/bin/env bash
-# Compares the calls of the library, as the crates `exports`, `circuit_exports` and `flow_exports` hand them over, with the reference, call by call: library.sh
+# Compares the calls of the library, as the crates `exports`, `circuit_exports`, `flow_exports` and `any_source_exports` hand them over, with the reference, call by call: library.sh
 # So the calls that no bench record makes are compared too: the returning router, ready lists over 64, with both families, with rows that are no address and
 # words that are no row, routes and lists of any length; the Ethernet A-D routes, with the whole state after each call, and the election over both tables; the
 # elections by multicast flow, with the whole state after each call, and the numbers set for them.
@@ -9,6 +9,7 @@ cd "$(dirname "$0")/.."
 rt staticlib exports > /dev/null
 rt staticlib circuit_exports > /dev/null
 rt staticlib flow_exports > /dev/null
+rt staticlib any_source_exports > /dev/null
 cargo test --offline --quiet --manifest-path benchmarks/Cargo.toml --target-dir benchmarks/target --test oracle
 cargo build --offline --quiet --manifest-path benchmarks/Cargo.toml --target-dir benchmarks/target --bin flow_driver
 for side in proved array list; do

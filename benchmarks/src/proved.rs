@@ -1,4 +1,4 @@
-//! The proved calls, as the crates `exports`, `circuit_exports` and `flow_exports` hand them to C: a slice goes over as its start and its length.
+//! The proved calls, as the crates `exports`, `circuit_exports`, `flow_exports` and `any_source_exports` hand them to C: a slice goes over as its start and its length.
 
 use crate::answer::{
     self, Address, Answer, Circuit, Family, Segment, Sent, Verdict, CIRCUIT_WORDS,

@@ -1,11 +1,11 @@
-// One call to a function, as in `exports`: those for multicast flows. They are an archive of their own, so that each election is compiled as it is for a program that calls
-// only that one.
+// One call to a function, as in `exports`: the setting of the numbers, and the election for a multicast flow (S,G). They are an archive of their own, so that each election is
+// compiled as it is for a program that calls only that one.
 use export_forms::Answer;
 ghost use mathlib.Core.Path.{_≡_};
 ghost use Rattle.ready.specs.Ready.{readyIn};
 ghost use Rattle.settings.specs.Settings.{numbersSet};
 ghost use Rattle.segment_state.specs.State.{segmentIn, ValidSegment, NumbersTold};
-ghost use Rattle.election.specs.Queries.{sourceGroup, anySource, electWith};
+ghost use Rattle.election.specs.Queries.{sourceGroup, electWith};
 ghost use Rattle.export_forms.specs.Forms.{exportedAnswer};
 
 // `segment::set_flow_algorithms`.
@@ -31,20 +31,5 @@ pub extern "C" fn segment_elect_source_group(
     ensures { λ r. ⌜ r ≡ exportedAnswer (electWith (segmentIn (now (s .entry)) .settings) (sourceGroup (now (source .entry)) (now (group .entry))) (segmentIn (now (s .entry)) .table .esi) (segmentIn (now (s .entry)) .table .entries) tag (readyIn (now (ready .entry)))) ⌝ }
 {
     let a = segment::elect_source_group(s, source, group, tag, ready);
-    export_forms::exported(a)
-}
-
-// `segment::elect_any_source`.
-#[no_mangle]
-pub extern "C" fn segment_elect_any_source(
-    s: &[u32],
-    group: &[u8],
-    tag: u32,
-    ready: &[u32],
-) -> Answer
-    requires { ⌜ ValidSegment (now s) ⌝ }
-    ensures { λ r. ⌜ r ≡ exportedAnswer (electWith (segmentIn (now (s .entry)) .settings) (anySource (now (group .entry))) (segmentIn (now (s .entry)) .table .esi) (segmentIn (now (s .entry)) .table .entries) tag (readyIn (now (ready .entry)))) ⌝ }
-{
-    let a = segment::elect_any_source(s, group, tag, ready);
     export_forms::exported(a)
 }

@@ -2,8 +2,8 @@
 use mathlib.Core.Path.{ap, _∙_}
 use Rattle.export_forms.specs.Forms.{exportedAnswer}
 use borrow.Author.Needs.{needs}
-use Rattle.flow_exports.proofs.segment_elect_any_source.Statement.{statement}
-use Rattle.flow_exports.proofs.segment_elect_any_source.Tie as tie
+use Rattle.any_source_exports.proofs.segment_elect_any_source.Statement.{statement}
+use Rattle.any_source_exports.proofs.segment_elect_any_source.Tie as tie
 
 returns : tie.Need-returns
 returns c = c .exported .ensures ∙ ap exportedAnswer (c .before .elect-any-source .ensures .0)
