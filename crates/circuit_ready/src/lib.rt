@@ -1,5 +1,4 @@
 // Which routers of a route table are ready for a tag by their Ethernet A-D routes, as a set of places: those whose two routes stand.
-use circuit_layout::CAPACITY;
 use circuit_layout::PER_INSTANCE;
 use circuit_layout::PER_SEGMENT;
 use circuit_layout::WIDTH;
@@ -54,8 +53,7 @@ fn look_for(circuits: &[u32], first: usize, row: &[u32]) -> Seen
 }
 
 // The set of the places whose router is ready for a tag. Routers are asked for in rising address order, as the routes of each kind stand: the first look for each
-// of a router's two routes is at the place after the one where the last router's stood, or would stand. Of the first router it is at the first route, and for the tag
-// in the middle.
+// of a router's two routes is at the place after the one where the last router's stood, or would stand. Of the first router it is at the first route.
 fn circuit_set(t: &[u32], circuits: &[u32], tag: u32) -> u64
     requires { ⌜ Valid (now t) × ValidCircuits (now circuits) ⌝ }
     ensures { λ r. ⌜ r ≡ setOf (map (λ e. readyFor (circuitsIn (now (circuits .entry))) tag (e .address)) (tableIn (now (t .entry)) .entries)) ⌝ }
@@ -63,7 +61,7 @@ fn circuit_set(t: &[u32], circuits: &[u32], tag: u32) -> u64
     let n = layout::count(t);
     let mut set = 0;
     let mut segment = 0;
-    let mut instance = CAPACITY;
+    let mut instance = 0;
     let mut at = 0;
     while at < n {
         let first = route_row(t, at, PER_SEGMENT, 0);
