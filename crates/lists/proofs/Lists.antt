@@ -6,7 +6,7 @@ use native.Mathlib.Omega.{arith}
 use mathlib.Core.Path.{_≡_, refl, ap, _∙_, subst}
 use mathlib.Core.Bool.{Bool, true, false, cond, and-false}
 use mathlib.Core.List.{List, [], _∷_, _++_, map, List·Memᴰ, List·Memᴰ·head, List·Memᴰ·tail, List·Permᴰ, List·Permᴰ·nil, List·Permᴰ·cons, List·Permᴰ·swap, List·Permᴰ·trans}
-use lib.ListN.{length, getD, set, take, drop, replicate}
+use lib.ListN.{length, getD, set, take, drop}
 use Rattle.lists.specs.Lists.{Every, all, tabulate}
 
 pub perm-length {ℓ} : {A : Type ℓ} {l m : List A} → List·Permᴰ l m → length l ≡ length m
@@ -119,10 +119,6 @@ module _ {A B : Type 0} (f : A → B) where
   pub map-cond : (b : Bool) (x y : List A) → map f (cond b x y) ≡ cond b (map f x) (map f y)
   map-cond true x y = refl
   map-cond false x y = refl
-
-  pub map-replicate : (n : ℕ) (x : A) → map f (replicate n x) ≡ replicate n (f x)
-  map-replicate zero x = refl
-  map-replicate (suc n) x = ap (λ (l : List B). f x ∷ l) (map-replicate n x)
 
   pub getD-map-in : (l : List A) (i : ℕ) (d : B) (e : A) → i < length l → getD (map f l) i d ≡ f (getD l i e)
   getD-map-in [] i d e h = absurd (not-suc-le-zero h)
