@@ -1,11 +1,13 @@
 // The entries of a table in its words: an address looked up, other attributes for an entry, an entry more, an entry less.
 use address::Address;
+use address::Family;
 use layout::ATTRIBUTES;
 use layout::COUNT;
 use layout::MAX_ROUTES;
 use rows::Found;
 use rows::Lookup;
 ghost use mathlib.Core.Path.{_≡_};
+ghost use mathlib.Core.Bool.{true};
 ghost use mathlib.Core.List.{[], _∷_, map};
 ghost use Prim.Native.Nat.{_≤_, _<_};
 ghost use lib.ListN.{length, getD, set};
@@ -15,10 +17,32 @@ ghost use Rattle.address.specs.Address.{addressRow, addressKey};
 ghost use Rattle.layout.specs.Table.{entryKey, noEntry, tableOf};
 ghost use Rattle.layout.specs.Words.{entryIn, wordsOf, tableIn, Valid};
 
-// Looks an address up, the entry at the place `first` before all others (the one in the middle where `first` is no place in use): where it stands, and how
+// Whether an IPv4 address stands at a place: its family and its first word tell, since the other words of an IPv4 entry are zero. Of an IPv6 address the answer is always no,
+// and the search is left to tell.
+fn is_ipv4_at(t: &[u32], at: usize, address: Address) -> bool
+    requires { ⌜ Valid (now t) ⌝ }
+    ensures { λ r. ⌜ (r ≡ true → (at < length (tableIn (now (t .entry)) .entries)) × (entryKey (getD (tableIn (now (t .entry)) .entries) at noEntry) ≡ addressKey (addressRow address))) ⌝ }
+{
+    let family = address.family;
+    match family {
+        Family::V6 => false,
+        Family::V4 => {
+            if layout::count(t) <= at {
+                return false;
+            }
+            if layout::family_at(t, at) != 4 {
+                return false;
+            }
+            let words = layout::words_at(t, at);
+            words[0] == address.w0
+        }
+    }
+}
+
+// Searches for an address, the entry at the place `first` before all others (the one in the middle where `first` is no place in use): where it stands, and how
 // many entries were compared with it, seven at most.
-// Every lookup in a table goes through here.
-pub fn lookup(t: &[u32], first: usize, address: Address) -> Lookup
+// Every search in a table goes through here.
+fn search(t: &[u32], first: usize, address: Address) -> Lookup
     requires { ⌜ Valid (now t) ⌝ }
     ensures found { λ r. ⌜ r .found ≡ foundIn entryKey (addressKey (addressRow address)) (tableIn (now (t .entry)) .entries) ⌝ }
     ensures looks { λ r. ⌜ r .looks ≡ length (looksFor first (addressKey (addressRow address)) (map entryKey (tableIn (now (t .entry)) .entries))) ⌝ }
@@ -29,12 +53,29 @@ pub fn lookup(t: &[u32], first: usize, address: Address) -> Lookup
     rows::search(t, n, first, &row)
 }
 
+// Looks an address up near a place: where the entry at the place `first` is that of the address, as in a list that rises as the table does, this look is all; else the table
+// is searched, that entry first.
+pub fn lookup(t: &[u32], first: usize, address: Address) -> Lookup
+    requires { ⌜ Valid (now t) ⌝ }
+    ensures found { λ r. ⌜ r .found ≡ foundIn entryKey (addressKey (addressRow address)) (tableIn (now (t .entry)) .entries) ⌝ }
+    ensures looks { λ r. ⌜ r .looks ≡ length (looksFor first (addressKey (addressRow address)) (map entryKey (tableIn (now (t .entry)) .entries))) ⌝ }
+    ensures few { λ r. ⌜ r .looks ≤ 7 ⌝ }
+{
+    if is_ipv4_at(t, first, address) {
+        return Lookup {
+            found: Found::At(first),
+            looks: 1,
+        };
+    }
+    search(t, first, address)
+}
+
 // Where an address stands, or would stand. No place in use is proposed, so the entry in the middle is looked at first.
 pub fn find(t: &[u32], address: Address) -> Found
     requires { ⌜ Valid (now t) ⌝ }
     ensures { λ r. ⌜ r ≡ foundIn entryKey (addressKey (addressRow address)) (tableIn (now (t .entry)) .entries) ⌝ }
 {
-    let r = lookup(t, MAX_ROUTES, address);
+    let r = search(t, MAX_ROUTES, address);
     r.found
 }
 

@@ -49,13 +49,11 @@ pub fn below(n: usize) -> u64
     (1 << n) - 1
 }
 
-// The set s with the place i; s unchanged for an i of 64 or more.
+// The set s with the place i.
 pub fn with(s: u64, i: usize) -> u64
+    requires { ⌜ i < 64 ⌝ }
     ensures { λ r. ⌜ r ≡ withPlace s i ⌝ }
 {
-    if i >= PLACES {
-        return s;
-    }
     s | (1 << i)
 }
 

@@ -92,7 +92,9 @@ circuit-set-spec =
     (λ c κs. (c .before .before .before .before .before .before .before .before .pre .0, omega (arith, c .before .before .before .before .before .count .ensures)))
     (λ c. search needs)
     (λ c κs. search needs)
-    (λ c κs. search needs)
+    (λ c κs.
+    let counted = c .before .before .before .before .before .before .before .before .before .before .before in
+    omega (arith, counted .count .ensures, counted .before .before .before .pre .0 .sound .short))
     (λ c. omega (arith, c .before .before .before .before .before .before .before .before .before .before .before .count .ensures))
     (λ c. omega (arith, c .before .before .before .before .before .before .before .before .before .before .before .count .ensures))
     loop-again

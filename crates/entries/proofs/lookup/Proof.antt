@@ -1,22 +1,19 @@
--- `lookup` meets its contract: the rows of the first column have the entries' keys. Assumes nothing.
+-- `lookup` meets its contract: the entry at the place that is proposed has the key, or the table is searched. Assumes nothing.
+use native.Mathlib.Omega.{arith}
 use borrow.Author.Needs.{needs}
-use Rattle.address.specs.Address.{addressRow}
-use Rattle.entries.proofs.Lookups.{search-asks, lookup-told}
+use Rattle.address.specs.Address.{addressRow, addressKey}
+use Rattle.layout.specs.Words.{tableIn}
+use Rattle.entries.proofs.Lookups.{first-hit}
 use Rattle.entries.proofs.lookup.Statement.{statement}
 use Rattle.entries.proofs.lookup.Tie as tie
 
-search-requires : tie.Need-search-requires
-search-requires c κs =
-    let start = c .before .before .before .before in
-    let a = start .args in
-    search-asks (a .t .now) _ _ (a .first) (addressRow (a .address)) (start .pre) (c .before .before .count .ensures) (c .before .row .ensures .0) (c .before .row .ensures .1 .0)
-
 returns : tie.Need-returns
 returns c =
-    let start = c .before .before .before .before .before in
+    let start = c .before .before .before in
     let a = start .args in
-    let told = c .search .ensures in
-    lookup-told (a .t .now) _ _ (a .first) (addressRow (a .address)) (start .pre) (c .before .before .before .count .ensures) (c .before .before .row .ensures .0) (c .before .before .row .ensures .1 .0) _ _ (told .0) (told .1)
+    let there = c .before .is-ipv4-at .ensures (c .if1 .taken) in
+    let hit = first-hit (tableIn (a .t .now) .entries) (addressKey (addressRow (a .address))) (a .first) (start .pre .sound .rising) (there .0) (there .1) in
+    (hit .0, (hit .1, omega arith))
 
 pub lookup-spec : {M : Type 1} → statement M
-lookup-spec = tie.close (tie.spec (λ c κs. search needs) (λ c κs. search needs) (λ c. search needs) search-requires returns)
+lookup-spec = tie.close (tie.spec (λ c κs. search needs) returns (λ c κs. search needs) (λ c. c .search .ensures))

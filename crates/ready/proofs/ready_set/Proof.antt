@@ -30,13 +30,16 @@ loop-holds c = (omega arith, ready-none (tableIn (c .before .before .args .t .no
 lookup-requires : tie.Need-lookup-requires Inv-loop μ-loop
 lookup-requires c κs = c .before .before .before .before .before .pre
 
-add-first : tie.Need-add-first Inv-loop μ-loop
-add-first c =
-    let found = c .before .before in
+-- a place that is found is one of 64
+place-lt : (found : tie.After-found Inv-loop μ-loop) → found .found .given .0 .0 < 64
+place-lt found =
     let called = found .before .before in
     let start = called .before .before .before .before .before .before in
     let s = start .pre .sound in
     omega (arith, s .short, at-lt entryKey _ (tableIn (start .args .t .now) .entries) 1 noEntry (s .rising) _ (sym (called .lookup .ensures .0) ∙ found .found .given .1))
+
+add-first : tie.Need-add-first Inv-loop μ-loop
+add-first c = let h = place-lt (c .before .before) in omega (arith, h)
 
 loop-again : tie.Need-loop-again Inv-loop μ-loop
 loop-again c =
@@ -76,7 +79,7 @@ ready-set-spec =
     (λ c κs. omega arith)
     lookup-requires
     (λ c. search needs)
-    (λ c κs. search needs)
+    (λ c κs. place-lt (c .before))
     add-first
     (λ c. search needs)
     (λ c. omega arith)
