@@ -8,7 +8,7 @@ use mathlib.Core.Bool.{Bool, true, false, cond, not, _&&_, _||_, and-false}
 use mathlib.Core.List.{List, [], _∷_, _++_, append-nil}
 use mathlib.Core.Logic.{_⊎_, inl, inr, ⊎-elim}
 use lib.ListN.{length, getD, set, take, drop, replicate, length-drop, length-append, length-replicate, take-append-drop, drop-of-length-le}
-use lib.Seq.{paste, length-take-le, take-all, drop-cons, getD-take, getD-drop}
+use lib.Seq.{paste, paste-suc, length-take-le, take-all, drop-cons, getD-take, getD-drop}
 use lib.Dec.{leb, eqb}
 use borrow.Author.Tests.{leb-true, eqb-true, le-leb, lt-leb, eq-eqb, ne-eqb}
 use Rattle.refusals.specs.Refusals.{rangesWrong}
@@ -184,6 +184,9 @@ module _ (w : List ℕ) where
         let whole = eqb-true (length w % 3) 0 (a .0) in
         (omega (arith, whole), leb-true (length w / 3) 16 (b .0), c .0, c .1)
 
+    pub may-few : length w / 3 ≤ 16
+    may-few = may-parts .1
+
     pub may-right : RangesRight (rangesOf w)
     may-right =
         let p = may-parts in record {
@@ -252,6 +255,12 @@ pub laid : (d : List ℕ) (n : ℕ) (s : List ℕ) (i : ℕ) → length d ≡ 49
 laid [] n s i m l e = absurd (omega arith)
 laid (x ∷ d) n s i m l e =
     rw (e, take-all 48 s (omega arith), drop-of-length-le (n ∷ d) {i = 49} (omega arith)) (ap (λ (t : List ℕ). n ∷ t) (append-nil s))
+
+pub laid-next : (d s e : List ℕ) (i x : ℕ) → length d ≡ 49 → length s ≡ 48 → i < 48 → e ≡ paste d 1 s i → x ≡ getD s i 0 → set e (i + 1) x ≡ paste d 1 s (i + 1)
+laid-next d s e i x m l h q p =
+    let f : i + 1 ≡ 1 + i = omega arith in
+    let g : suc i ≡ i + 1 = omega arith in
+    rw (p, q) (ap (λ (j : ℕ). set (paste d 1 s i) j (getD s i 0)) f ∙ paste-suc d 1 s i 0 (omega arith) (omega arith) ∙ ap (paste d 1 s) g)
 
 pub words-laid : (w : List ℕ) → length w / 3 ∷ column 3 16 (rangesOf w) ≡ rangesWords (rangesOf w)
 unfolding rangesWords
