@@ -1,20 +1,20 @@
--- Laws of `specs/Ranges.antt`: the ranges that a run of numbers names and those that lie in words, which may be set, what setting them answers and keeps, and the algorithm for a tag. Assumes nothing.
+-- Laws of `specs/Ranges.antt`: the ranges that a run of numbers names and those that lie in words, which of them may be set, what setting them answers and keeps, and the
+-- algorithm for a tag. Assumes nothing.
 use Prim.Native.Nat.{ℕ, zero, suc, _+_, _-_, _*_, _/_, _%_, _≤_, _<_}
 use native.Mathlib.Nat.{suc-mul, zero-mul, add-zero}
 use native.Mathlib.Numerals.{add-one}
 use native.Mathlib.Omega.{arith}
-use mathlib.Core.Path.{_≡_, refl, ap, ap₂, _∙_, sym, subst}
+use mathlib.Core.Path.{_≡_, refl, ap, _∙_, sym, subst}
 use mathlib.Core.Bool.{Bool, true, false, cond, not, _&&_, _||_, and-false}
 use mathlib.Core.List.{List, [], _∷_, _++_, append-nil}
 use mathlib.Core.Logic.{_⊎_, inl, inr, ⊎-elim}
-use lib.ListN.{length, getD, set, take, drop, replicate, length-drop, length-append, length-replicate, take-append-drop, drop-of-length-le}
+use lib.ListN.{length, getD, set, take, drop, replicate, length-drop, take-append-drop, drop-of-length-le}
 use lib.Seq.{paste, paste-suc, length-take-le, take-all, drop-cons, getD-take, getD-drop}
 use lib.Dec.{leb, eqb}
 use borrow.Author.Tests.{leb-true, eqb-true, le-leb, lt-leb, eq-eqb, ne-eqb}
 use Rattle.refusals.specs.Refusals.{rangesWrong}
 use Rattle.lists.specs.Lists.{all, Every}
 use Rattle.lists.proofs.Bools.{by-test, cond-by}
-use Rattle.lists.proofs.Numbers.{either}
 use Rattle.lists.proofs.Lists.{empty}
 use Rattle.rows.specs.Rows.{rowsIn, flat, column}
 use Rattle.rows.proofs.Rows.{rows-length, rows-at}
@@ -36,13 +36,13 @@ module _ (n : ℕ) (w : List ℕ) (i : ℕ) (h : i < n) where
   word-of : (j : ℕ) → j < 3 → getD (getD (rowsIn 3 n w) i []) j 0 ≡ getD w (i * 3 + j) 0
   word-of j l = ap (λ (r : List ℕ). getD r j 0) (rows-at 3 n w i h) ∙ getD-take 3 (drop (i * 3) w) j 0 l ∙ getD-drop (i * 3) w j 0
 
-  pub first-word : firstTag (getD (rowsIn 3 n w) i []) ≡ getD w (i * 3) 0
+  first-word : firstTag (getD (rowsIn 3 n w) i []) ≡ getD w (i * 3) 0
   first-word = word-of 0 (omega arith) ∙ ap (λ (p : ℕ). getD w p 0) (add-zero (i * 3))
 
-  pub last-word : lastTag (getD (rowsIn 3 n w) i []) ≡ getD w (i * 3 + 1) 0
+  last-word : lastTag (getD (rowsIn 3 n w) i []) ≡ getD w (i * 3 + 1) 0
   last-word = word-of 1 (omega arith)
 
-  pub named-word : namedBy (getD (rowsIn 3 n w) i []) ≡ getD w (i * 3 + 2) 0
+  named-word : namedBy (getD (rowsIn 3 n w) i []) ≡ getD w (i * 3 + 2) 0
   named-word = word-of 2 (omega arith)
 
 module _ (k : ℕ) where
@@ -58,7 +58,7 @@ module _ (k : ℕ) where
   flat-rows (suc n) w h =
       ap (λ (x : List ℕ). take k w ++ x) (flat-rows n (drop k w) (omega (arith, suc-mul n k, h, length-drop k w))) ∙ take-append-drop k w
 
--- a word behind a run that zeros follow
+-- zeros behind a run change no number of it, and none behind it
 getD-zeros : (w : List ℕ) (m i : ℕ) → getD (w ++ replicate m 0) i 0 ≡ getD w i 0
 getD-zeros [] zero i = refl
 getD-zeros [] (suc m) zero = refl
@@ -187,7 +187,7 @@ module _ (w : List ℕ) where
     pub may-few : length w / 3 ≤ 16
     may-few = may-parts .1
 
-    pub may-right : RangesRight (rangesOf w)
+    may-right : RangesRight (rangesOf w)
     may-right =
         let p = may-parts in record {
           few = omega (arith, rows-length 3 (length w / 3) w, p .1);
@@ -291,7 +291,8 @@ module _ (b : List ℕ) (v : ValidRanges b) (w : List ℕ) where
   told-set e d q = ((rw e, rw e (ranges-words-in (rangesOf w) d (may-right w e) q)), words-valid (rangesOf w) d (may-right w e) q)
 
 -- THE RANGES IN WORDS: where the words of the range at a place lie
-in-words : (b : List ℕ) (i : ℕ) → i < length (rangesIn b) → (firstTag (getD (rangesIn b) i []) ≡ getD b (i * 3 + 1) 0) × (lastTag (getD (rangesIn b) i []) ≡ getD b (i * 3 + 2) 0) × (namedBy (getD (rangesIn b) i []) ≡ getD b (i * 3 + 3) 0)
+in-words : (b : List ℕ) (i : ℕ) → i < length (rangesIn b)
+    → (firstTag (getD (rangesIn b) i []) ≡ getD b (i * 3 + 1) 0) × (lastTag (getD (rangesIn b) i []) ≡ getD b (i * 3 + 2) 0) × (namedBy (getD (rangesIn b) i []) ≡ getD b (i * 3 + 3) 0)
 unfolding rangesIn
 in-words [] i h = absurd (omega arith)
 in-words (n ∷ b) i h =

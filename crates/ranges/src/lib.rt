@@ -18,8 +18,10 @@ const WIDTH: usize = 3;
 
 const MOST: usize = 16;
 
-// The words of all places.
+// The words of all places, and a word of an unused one.
 const ROOM: usize = 48;
+
+const UNUSED: u32 = 0;
 
 // No range set.
 pub fn fresh() -> [u32; WORDS]
@@ -111,14 +113,14 @@ fn may_be_ranges(run: &[u32]) -> bool
     all_right(run)
 }
 
-// Number i of a run, or 0 behind it.
+// Number i of a run, or behind it the word of an unused place.
 fn number_at(run: &[u32], i: usize) -> u32
     ensures { λ r. ⌜ r ≡ getD (now (run .entry)) i 0 ⌝ }
 {
     if i < run.len() {
         return run[i];
     }
-    0
+    UNUSED
 }
 
 // Lays a run of at most 16 whole ranges into the words.

@@ -1,11 +1,10 @@
 -- `algorithm_in` meets its contract: at every turn, the tag is in no range so far. Assumes nothing.
-use Prim.Native.Nat.{_+_, _-_, _*_, _≤_, _<_}
+use Prim.Native.Nat.{_-_, _≤_, _<_}
 use native.Mathlib.Omega.{arith}
-use mathlib.Core.Path.{_≡_, refl, ap, sym, _∙_}
-use mathlib.Core.List.{List, []}
+use mathlib.Core.Path.{_≡_, refl, sym, _∙_}
 use mathlib.Core.Logic.{⊎-elim}
 use borrow.Author.Needs.{needs}
-use lib.ListN.{length, getD, drop}
+use lib.ListN.{length, drop}
 use Rattle.ranges.specs.Ranges.{rangesIn, algorithmIn}
 use Rattle.ranges.proofs.Laws.{length-ranges, count-word, first-in, last-in, named-in, named-least, tag-before, tag-after, tag-within, tag-nowhere}
 use Rattle.ranges.proofs.algorithm_in.Statement.{statement}

@@ -1,12 +1,10 @@
 -- `put` meets its contract: the number of ranges, and then word by word their places. Assumes nothing.
-use Prim.Native.Nat.{_+_, _-_, _/_, _≤_, _<_}
-use native.Mathlib.Numerals.{add-one}
+use Prim.Native.Nat.{_+_, _-_, _/_, _≤_}
 use native.Mathlib.Omega.{arith}
-use mathlib.Core.Path.{_≡_, ap, sym, _∙_}
-use mathlib.Core.List.{List}
+use mathlib.Core.Path.{_≡_, sym, _∙_}
 use borrow.Author.Needs.{needs}
-use lib.ListN.{length, getD, set, length-set}
-use lib.Seq.{paste, paste-zero, paste-suc}
+use lib.ListN.{length, set, length-set}
+use lib.Seq.{paste, paste-zero}
 use Rattle.rows.specs.Rows.{column}
 use Rattle.ranges.specs.Ranges.{rangesOf}
 use Rattle.ranges.proofs.Laws.{may-few, place-words, length-places, laid, laid-next, words-laid}
