@@ -74,6 +74,10 @@ flowLength = 18
 abbrev pub stepOutOfRange : ℕ
 stepOutOfRange = 19
 
+-- ranges of tags that overlap, run backwards, name a reserved tag, or are too many (document 02, M-109)
+abbrev pub rangesWrong : ℕ
+rangesWrong = 20
+
 -- a number that names no event (ours: document 02 gives none)
 abbrev pub eventUnknown : ℕ
 eventUnknown = 23

@@ -55,5 +55,8 @@ pub const FLOW_LENGTH: u8 = 18;
 // A step outside -65,535 to 65,535 (document 02, M-108).
 pub const STEP_OUT_OF_RANGE: u8 = 19;
 
+// Ranges of tags that overlap, run backwards, name a reserved tag, or are too many (document 02, M-109).
+pub const RANGES_WRONG: u8 = 20;
+
 // A number that names no event (ours: document 02 gives none).
 pub const EVENT_UNKNOWN: u8 = 23;

@@ -1,0 +1,2 @@
+-- Laws of the ranges, for the crates above.
+pub mod Laws
