@@ -20,14 +20,14 @@ use Rattle.layout.specs.Table.{Entry, Table, entryKey, tableOf, WellFormed}
 use Rattle.table.specs.Table.{announceNumber, withdrawNumber, announced, withdrawn, Told}
 use Rattle.layout.specs.Words.{tableIn}
 use Rattle.table.proofs.Calls.{announced-kept, withdrawn-kept, passed-route, passed-esi, passed-list, passed-room}
-use Rattle.settings.specs.Settings.{Settings, numbersSet, SettingsRight, settingsIn, SettingsTold}
-use Rattle.settings.proofs.Laws.{numbers-kept, numbers-refused}
+use Rattle.settings.specs.Settings.{Settings, numbersSet, rangesGiven, SettingsRight, settingsIn, SettingsTold}
+use Rattle.settings.proofs.Laws.{numbers-kept, numbers-refused, given-kept, given-refused}
 use Rattle.segment_state.specs.State.{Segment}
 use Rattle.answers.specs.declared.Answer.{Answer}
 use Rattle.election.specs.Queries.{Query, electWith}
 use Rattle.returning.specs.declared.Sent.{Sent}
-use Rattle.returning.specs.Returning.{returningOf}
-use Rattle.demand3.specs.Calls.{Call, announce, withdraw, setNumbers, elect, returning, changeReply, electReply, returningReply, numberIn, replyTo, tableLeft, settingsLeft, leaves, Changes}
+use Rattle.returning.specs.Returning.{returningWith}
+use Rattle.demand3.specs.Calls.{Call, announce, withdraw, setNumbers, setRanges, elect, returning, changeReply, electReply, returningReply, numberIn, replyTo, tableLeft, settingsLeft, leaves, Changes}
 use Rattle.demand3.specs.Journal.{Announcement, originatorKey, again, entryFrom, callNumber, callEffect, numberFor}
 
 -- THE TABLE OF ANNOUNCEMENTS that are listed in rising order
@@ -71,6 +71,7 @@ module _ (i : List ℕ) where
         (withdrawn-number a)
         (sym (map-remove entryFrom originatorKey entryKey (λ x. refl) k l))
     call-state (setNumbers a b) = refl
+    call-state (setRanges w) = refl
     call-state (elect q tag ready) = refl
     call-state (returning a alg p d) = refl
 
@@ -94,6 +95,7 @@ by-announcement P f (announce r c) p e =
     subst (P (announce r c)) own (f (record { route = r; communities = c }))
 by-announcement P f (withdraw a) p e = absurd (not-released e)
 by-announcement P f (setNumbers a b) p e = absurd (not-neither e)
+by-announcement P f (setRanges w) p e = absurd (not-neither e)
 by-announcement P f (elect q tag ready) p e = absurd (not-neither e)
 by-announcement P f (returning a alg v d) p e = absurd (not-neither e)
 
@@ -130,6 +132,7 @@ unfolding numberIn replyTo tableLeft settingsLeft announced withdrawn
 refused-leaves s (announce r c) n = same-state s (rw (ne-eqb (announced (s .table) r c .number) 0 n)) refl
 refused-leaves s (withdraw a) n = same-state s (rw (ne-eqb (withdrawn (s .table) a .number) 0 n)) refl
 refused-leaves s (setNumbers a b) n = same-state s refl (numbers-refused (s .settings) a b n)
+refused-leaves s (setRanges w) n = same-state s refl (given-refused (s .settings) w n)
 refused-leaves s (elect q tag ready) n = refl
 refused-leaves s (returning a alg p d) n = refl
 
@@ -138,6 +141,7 @@ unfolding tableLeft
 table-kept t (announce r c) w = announced-kept t w r c
 table-kept t (withdraw a) w = withdrawn-kept t w a
 table-kept t (setNumbers a b) w = w
+table-kept t (setRanges v) w = w
 table-kept t (elect q tag ready) w = w
 table-kept t (returning a alg p d) w = w
 
@@ -146,6 +150,7 @@ unfolding settingsLeft
 settings-kept g (announce r c) w = w
 settings-kept g (withdraw a) w = w
 settings-kept g (setNumbers a b) w = numbers-kept g a b w
+settings-kept g (setRanges v) w = given-kept g v w
 settings-kept g (elect q tag ready) w = w
 settings-kept g (returning a alg p d) w = w
 
@@ -165,12 +170,17 @@ pub numbers-changes : (s : Segment) (a b n : ℕ) (w : List ℕ) → SettingsTol
 unfolding replyTo tableLeft settingsLeft
 numbers-changes s a b n w o = (ap changeReply (sym (o .0)), rw (o .1))
 
+pub ranges-changes : (s : Segment) (run : List ℕ) (n : ℕ) (w : List ℕ) → SettingsTold (rangesGiven (s .settings) run) n w
+    → Changes s (setRanges run) n (record { table = s .table; settings = settingsIn w })
+unfolding replyTo tableLeft settingsLeft
+ranges-changes s run n w o = (ap changeReply (sym (o .0)), rw (o .1))
+
 -- what the code answers to an election and to a returning router is the list's reply
 pub elect-replies : (s : Segment) (q : Query) (tag : ℕ) (ready : List (List ℕ)) {r : Answer} → r ≡ electWith (s .settings) q (s .table .esi) (s .table .entries) tag ready
     → replyTo s (elect q tag ready) ≡ electReply r
 unfolding replyTo
 elect-replies s q tag ready e = ap electReply (sym e)
 
-pub returning-replies : (s : Segment) (a : List ℕ) (alg p : ℕ) (d : Bool) {r : Sent} → r ≡ returningOf (s .table .entries) a alg p d → replyTo s (returning a alg p d) ≡ returningReply r
+pub returning-replies : (s : Segment) (a : List ℕ) (alg p : ℕ) (d : Bool) {r : Sent} → r ≡ returningWith (s .settings) (s .table .entries) a alg p d → replyTo s (returning a alg p d) ≡ returningReply r
 unfolding replyTo
 returning-replies s a alg p d e = ap returningReply (sym e)

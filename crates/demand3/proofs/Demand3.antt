@@ -17,18 +17,18 @@ use Rattle.keyed.proofs.Replay as replay
 use Rattle.layout.specs.Table.{Entry, Table, entryKey, tableOf, WellFormed, ownerOf}
 use Rattle.table.specs.Table.{freshTable}
 use Rattle.table.proofs.Calls.{fresh-kept}
-use Rattle.settings.specs.Settings.{Settings, noneSet, numbersSet, SettingsRight}
+use Rattle.settings.specs.Settings.{Settings, noneSet, numbersSet, rangesGiven, SettingsRight}
 use Rattle.settings.proofs.Laws.{none-right}
 use Rattle.segment_state.specs.State.{Segment, freshSegment, segmentWords}
 use Rattle.answers.specs.declared.Answer.{Answer}
 use Rattle.election.specs.Queries.{Query, electWith}
 use Rattle.returning.specs.declared.Sent.{Sent}
-use Rattle.returning.specs.Returning.{returningOf}
-use Rattle.demand3.specs.Calls.{Call, announce, withdraw, setNumbers, elect, returning, Reply, changeReply, electReply, returningReply, numberIn, replyTo, tableLeft, settingsLeft, leaves, Changes}
+use Rattle.returning.specs.Returning.{returningWith}
+use Rattle.demand3.specs.Calls.{Call, announce, withdraw, setNumbers, setRanges, elect, returning, Reply, changeReply, electReply, returningReply, numberIn, replyTo, tableLeft, settingsLeft, leaves, Changes}
 use Rattle.demand3.specs.Journal.{Announcement, originatorKey, again, entryFrom, entriesFrom, callNumber, callEffect, numberFor, Journal, journalOf, step, journalReply, settingsSet, setAgain, lastSet}
 use Rattle.demand3.specs.Demand3.{replies, segmentAfter, Follows, Demand3}
 use Rattle.demand3.proofs.Calls.{rules, state, announced-number, withdrawn-number, call-state, refused-leaves, table-kept, settings-kept}
-use Rattle.demand3.proofs.Settings.{again-accepted, again-restores, last-numbers}
+use Rattle.demand3.proofs.Settings.{again-accepted, again-restores, last-set}
 
 -- SINGLE CALLS. i is the journal's identifier
 module _ (i : List ℕ) where
@@ -43,8 +43,9 @@ module _ (i : List ℕ) where
   same-heard k o js g (announce r c) = refl
   same-heard k o js g (withdraw a) = refl
   same-heard k o js g (setNumbers a b) = no-choice (eqb (numberFor i js (setNumbers a b)) 0) (eqb (numbersSet g a b .number) 0) o
+  same-heard k o js g (setRanges w) = no-choice (eqb (numberFor i js (setRanges w)) 0) (eqb (rangesGiven g w .number) 0) o
   same-heard k o js g (elect q tag ready) = no-choice (eqb (numberFor i js (elect q tag ready)) 0) (eqb (electWith g q i (entriesFrom js) tag ready .number) 0) o
-  same-heard k o js g (returning a alg p d) = no-choice (eqb (numberFor i js (returning a alg p d)) 0) (eqb (returningOf (entriesFrom js) a alg p d .number) 0) o
+  same-heard k o js g (returning a alg p d) = no-choice (eqb (numberFor i js (returning a alg p d)) 0) (eqb (returningWith g (entriesFrom js) a alg p d .number) 0) o
 
   own-number : (js : List Announcement) (g : Settings) (p : Announcement) → journalReply i (journalOf js g) (again p) ≡ changeReply (numberFor i js (again p))
   unfolding journalReply
@@ -58,6 +59,7 @@ module _ (i : List ℕ) where
   agree g js (withdraw a) k =
       ap changeReply (withdrawn-number i (arranged originatorKey js) a ∙ number-arranged originatorKey (callNumber i) callEffect again 64 js (withdraw a) (k .distinct))
   agree g js (setNumbers a b) k = refl
+  agree g js (setRanges w) k = refl
   agree g js (elect q tag ready) k = refl
   agree g js (returning a alg p d) k = refl
 
@@ -113,8 +115,8 @@ demand3 i cs =
       refusals = refused-leaves (segmentAfter i cs);
       single = w .distinct;
       last = w .last;
-      numbers = ap (λ (s : Segment). s .settings) (after-parts (freshSegment i) cs);
-      lastNumbers = last-numbers (freshSegment i) cs;
+      standing = ap (λ (s : Segment). s .settings) (after-parts (freshSegment i) cs);
+      lastAccepted = last-set (freshSegment i) cs;
       sound = rw (after-parts (freshSegment i) cs) (calls-kept (freshTable i .table) cs (fresh-kept i));
       settings = rw (after-parts (freshSegment i) cs) (calls-right noneSet cs none-right);
       accepted = w .accepted;

@@ -17,9 +17,9 @@ use Rattle.winner.specs.Winner.{better, elected}
 use Rattle.tags.specs.Tags.{reservedTag}
 use Rattle.answers.specs.Answers.{answerBy}
 use Rattle.election.specs.Election.{electOf}
-use Rattle.returning.specs.Returning.{allUnder, reaches, besideReference, advertised, returningOf}
+use Rattle.returning.specs.Returning.{allUnder, reaches, fits, besideReference, keepsOwn, advertised, returningOf}
 use Rattle.demand3.specs.Values.{starred, allRight}
 
 pub starred-right : allRight starred ≡ true
-unfolding allRight all numberOf octetsOf sameNumbers allAre rowKey familyOf addressWords addressKey addressNumber isZero remove electionUnder communityOctets readCommunity setOf picked best bestOf crcBit crcBits crcOctet crcOver crc32Of weightOf allCarry inUse onList eligible candidates candidateSet better elected reservedTag answerBy electOf allUnder reaches besideReference advertised returningOf
+unfolding allRight all numberOf octetsOf sameNumbers allAre rowKey familyOf addressWords addressKey addressNumber isZero remove electionUnder communityOctets readCommunity setOf picked best bestOf crcBit crcBits crcOctet crcOver crc32Of weightOf allCarry inUse onList eligible candidates candidateSet better elected reservedTag answerBy electOf allUnder reaches fits besideReference keepsOwn advertised returningOf
 starred-right = refl

@@ -1,5 +1,5 @@
 -- The journal of a segment: what a list of calls leaves held, and what it leaves set, kept from the identifier and the calls' arguments alone, without a table (document 01,
--- "A whole night of calls": the book; an announcement that is held is its address's page; document 02, M-106).
+-- "A whole night of calls": the book; an announcement that is held is its address's page; document 02, M-106 and M-109).
 --   Announcement           == route octets and communities
 --   originatorKey p        == the key of the address that p announces: what is held is held for addresses
 --   again p                == the call that announces p
@@ -15,14 +15,16 @@
 --   noneHeld               == the journal at first
 --   held i cs              == what the calls cs leave held, where the identifier i was handed in
 --   settingsSet cs         == what they leave set
---   setAgain g             == the calls that set g again: none where none are set
+--   numbersAgain g, rangesAgain g == the call that sets the numbers of g again, and that which sets its ranges: none where none are set
+--   setAgain g             == the calls that set g again
 --   left i cs              == the calls that bring back what is left: the settings, and what is held
---   numbersOf g c          == the numbers that the call c sets where it is accepted, and g where it sets none
---   lastSet g cs ns        == the numbers last set by the calls cs, answered the numbers ns, where g was set before
+--   setBy g c              == what is set after the call c where it is accepted, and g was set before
+--   lastSet g cs ns        == what was last set by the calls cs, answered the numbers ns, where g was set before
 --   OnePerAddress js       == no two announcements of js have the same originator's key
 use Prim.Native.Nat.{ℕ}
 use mathlib.Core.Bool.{Bool, cond}
 use mathlib.Core.List.{List, [], _∷_, _++_, map}
+use lib.ListN.{length}
 use lib.Dec.{eqb}
 use Rattle.address.specs.Address.{addressKey}
 use Rattle.route.specs.Route.{routeAddress}
@@ -31,10 +33,12 @@ use Rattle.keyed.specs.Keyed.{Distinct, arranged}
 use Rattle.keyed.specs.Journal.{Effect, hold, release, neither, after, journalNumber, journalStep}
 use Rattle.layout.specs.Table.{Entry, entryOf, ownerOf}
 use Rattle.table.specs.Table.{announceNumber, withdrawNumber}
-use Rattle.settings.specs.Settings.{Settings, noneSet, numbersSet}
+use Rattle.rows.specs.Rows.{flat}
+use Rattle.ranges.specs.Ranges.{rangesOf}
+use Rattle.settings.specs.Settings.{Settings, noneSet, numbersSet, rangesGiven}
 use Rattle.election.specs.Queries.{electWith}
-use Rattle.returning.specs.Returning.{returningOf}
-use Rattle.demand3.specs.Calls.{Call, announce, withdraw, setNumbers, elect, returning, Reply, changeReply, electReply, returningReply, settingsLeft}
+use Rattle.returning.specs.Returning.{returningWith}
+use Rattle.demand3.specs.Calls.{Call, announce, withdraw, setNumbers, setRanges, elect, returning, Reply, changeReply, electReply, returningReply, settingsLeft}
 
 pub record Announcement : Type 0 where
   pub route : List ℕ
@@ -57,6 +61,7 @@ unfoldable pub callNumber : List ℕ → Call → (ℕ → Bool) → ℕ → ℕ
 callNumber i (announce r c) present n = announceNumber i r c (present (addressKey (routeAddress r))) n
 callNumber i (withdraw a) present n = withdrawNumber a (present (addressKey a))
 callNumber i (setNumbers a b) present n = 0
+callNumber i (setRanges w) present n = 0
 callNumber i (elect q tag ready) present n = 0
 callNumber i (returning a alg p d) present n = 0
 
@@ -64,6 +69,7 @@ unfoldable pub callEffect : Call → Effect Announcement
 callEffect (announce r c) = hold (record { route = r; communities = c })
 callEffect (withdraw a) = release (addressKey a)
 callEffect (setNumbers a b) = neither
+callEffect (setRanges w) = neither
 callEffect (elect q tag ready) = neither
 callEffect (returning a alg p d) = neither
 
@@ -87,8 +93,9 @@ unfoldable pub journalReply : List ℕ → Journal → Call → Reply
 journalReply i j (announce r c) = changeReply (numberFor i (j .held) (announce r c))
 journalReply i j (withdraw a) = changeReply (numberFor i (j .held) (withdraw a))
 journalReply i j (setNumbers a b) = changeReply (numbersSet (j .settings) a b .number)
+journalReply i j (setRanges w) = changeReply (rangesGiven (j .settings) w .number)
 journalReply i j (elect q tag ready) = electReply (electWith (j .settings) q i (entriesFrom (j .held)) tag ready)
-journalReply i j (returning a alg p d) = returningReply (returningOf (entriesFrom (j .held)) a alg p d)
+journalReply i j (returning a alg p d) = returningReply (returningWith (j .settings) (entriesFrom (j .held)) a alg p d)
 
 -- at first nothing is held, and none are set
 abbrev pub noneHeld : Journal
@@ -101,23 +108,30 @@ abbrev pub settingsSet : List Call → Settings
 settingsSet cs = after settingsLeft noneSet cs
 
 -- WHAT IS LEFT
-unfoldable pub setAgain : Settings → List Call
-setAgain g = cond (eqb (g .sourceGroup) 0) [] (setNumbers (g .sourceGroup) (g .anySource) ∷ [])
+unfoldable pub numbersAgain : Settings → List Call
+numbersAgain g = cond (eqb (g .sourceGroup) 0) [] (setNumbers (g .sourceGroup) (g .anySource) ∷ [])
+
+unfoldable pub rangesAgain : Settings → List Call
+rangesAgain g = cond (eqb (length (g .ranges)) 0) [] (setRanges (flat (g .ranges)) ∷ [])
+
+abbrev pub setAgain : Settings → List Call
+setAgain g = numbersAgain g ++ rangesAgain g
 
 abbrev pub left : List ℕ → List Call → List Call
 left i cs = setAgain (settingsSet cs) ++ map again (held i cs)
 
-unfoldable pub numbersOf : Settings → Call → Settings
-numbersOf g (announce r c) = g
-numbersOf g (withdraw a) = g
-numbersOf g (setNumbers a b) = record { sourceGroup = a; anySource = b }
-numbersOf g (elect q tag ready) = g
-numbersOf g (returning a alg p d) = g
+unfoldable pub setBy : Settings → Call → Settings
+setBy g (announce r c) = g
+setBy g (withdraw a) = g
+setBy g (setNumbers a b) = record { sourceGroup = a; anySource = b; ranges = g .ranges }
+setBy g (setRanges w) = record { sourceGroup = g .sourceGroup; anySource = g .anySource; ranges = rangesOf w }
+setBy g (elect q tag ready) = g
+setBy g (returning a alg p d) = g
 
 unfoldable pub lastSet : Settings → List Call → List ℕ → Settings
 lastSet g [] ns = g
 lastSet g (c ∷ cs) [] = g
-lastSet g (c ∷ cs) (n ∷ ns) = lastSet (cond (eqb n 0) (numbersOf g c) g) cs ns
+lastSet g (c ∷ cs) (n ∷ ns) = lastSet (cond (eqb n 0) (setBy g c) g) cs ns
 
 abbrev pub OnePerAddress : List Announcement → Type 0
 OnePerAddress js = Distinct originatorKey js

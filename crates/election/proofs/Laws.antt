@@ -8,10 +8,12 @@ use lib.ListN.{length, getD}
 use lib.Dec.{ltb, eqb}
 use lib.Count.{ones}
 use borrow.Author.Tests.{lt-ltb, le-ltb, ltb-true}
+use Rattle.lists.proofs.Numbers.{either}
 use Rattle.layout.specs.Table.{Entry, noEntry, Table, WellFormed}
 use Rattle.places.specs.Places.{places}
 use Rattle.tags.specs.Tags.{reservedTag}
 use Rattle.hrw.specs.Weight.{digestOf, flowDigestOf}
+use Rattle.ranges.proofs.Laws.{algorithm-none}
 use Rattle.settings.specs.Settings.{Settings, noneSet}
 use Rattle.agreement.specs.Agreement.{inUse, inUseWith}
 use Rattle.agreement.specs.declared.InUse.{InUse}
@@ -99,7 +101,7 @@ method-flow : (s : Settings) (q : Query) (a tag : ℕ) (i : List ℕ) (n : ℕ) 
 unfolding methodFor
 method-flow s q a tag i n o p y b = rw (p, b, y)
 
-method-tag : (s : Settings) (q : Query) (a tag : ℕ) (i : List ℕ) (n : ℕ) → numberFor s q ≡ n → agreedOn a n ≡ false → methodFor s q a tag i ≡ byTag (plainAlgorithm a) tag i
+method-tag : (s : Settings) (q : Query) (a tag : ℕ) (i : List ℕ) (n : ℕ) → numberFor s q ≡ n → agreedOn a n ≡ false → methodFor s q a tag i ≡ byTag (plainAlgorithm s tag a) tag i
 unfolding methodFor
 method-tag s q a tag i n p b = rw (p, b)
 
@@ -150,7 +152,7 @@ module _ (s : Settings) (q : Query) (t : Table) (w : WellFormed t) (tag : ℕ) (
             let m : Method = record { algorithm = 1; digest = flowDigestOf o tag (t .esi); told = u .algorithm } in
             elects-by m (method-flow s q (u .algorithm) tag (t .esi) n o p y b) (answers-named t w (u .«ac_df») ready m tag c f at z x v)
 
-        pub elects-tag : (n a : ℕ) → numberFor s q ≡ n → agreedOn (u .algorithm) n ≡ false → a ≡ plainAlgorithm (u .algorithm)
+        pub elects-tag : (n a : ℕ) → numberFor s q ≡ n → agreedOn (u .algorithm) n ≡ false → a ≡ plainAlgorithm s tag (u .algorithm)
             → ElectedAt (t .entries) a (digestOf tag (t .esi)) c tag at
             → (r ≡ namedAnswer (getD (t .entries) at noEntry .address) a (length (places c)) c) × (r .n ≡ ones (r .candidates))
             → Elected s q (t .esi) (t .entries) tag ready r
@@ -159,17 +161,20 @@ module _ (s : Settings) (q : Query) (t : Table) (w : WellFormed t) (tag : ℕ) (
             (answers-named t w (u .«ac_df») ready (byTag a tag (t .esi)) tag c f at z x v)
 
 -- DOCUMENT 01'S ELECTION is that of a plain query where none is set
-plain-method : (s : Settings) (a tag : ℕ) (i : List ℕ) → methodFor s plain a tag i ≡ byTag (plainAlgorithm a) tag i
+plain-method : (s : Settings) (a tag : ℕ) (i : List ℕ) → methodFor s plain a tag i ≡ byTag (plainAlgorithm s tag a) tag i
 unfolding numberFor agreedOn
 plain-method s a tag i = method-tag s plain a tag i 0 refl refl
 
-plain-four : (a : ℕ) → a < 4 → plainAlgorithm a ≡ a
+plain-four : (tag a : ℕ) → a < 4 → plainAlgorithm noneSet tag a ≡ a
 unfolding plainAlgorithm
-plain-four a h = rw (lt-ltb a 4 h)
+plain-four tag a h =
+    either a 2
+    (λ l. rw (lt-ltb a 2 l))
+    (λ g. rw (le-ltb a 2 g, le-ltb 3 a (omega arith)) (algorithm-none tag a))
 
 pub elect-none : (i : List ℕ) (l : List Entry) (tag : ℕ) (ready : List (List ℕ)) → electWith noneSet plain i l tag ready ≡ electOf i l tag ready
 unfolding electWith electOf rightLengths
 elect-none i l tag ready =
     ap (λ (u : InUse). cond (reservedTag tag) (refusedAnswer 10) (cond (ltb 64 (length ready)) (refusedAnswer 11) (answerBy (methodFor noneSet plain (u .algorithm) tag i) (candidates (u .«ac_df») ready l) (candidateSet (u .«ac_df») ready l) tag))) (in-use-none l)
     ∙ ap (λ (m : Method). cond (reservedTag tag) (refusedAnswer 10) (cond (ltb 64 (length ready)) (refusedAnswer 11) (answerBy m (candidates (inUse l .«ac_df») ready l) (candidateSet (inUse l .«ac_df») ready l) tag)))
-    (plain-method noneSet (inUse l .algorithm) tag i ∙ ap (λ (a : ℕ). byTag a tag i) (plain-four (inUse l .algorithm) (in-use-four l)))
+    (plain-method noneSet (inUse l .algorithm) tag i ∙ ap (λ (a : ℕ). byTag a tag i) (plain-four tag (inUse l .algorithm) (in-use-four l)))

@@ -1,12 +1,13 @@
--- The election where the operator has set numbers, for a plain query and for a multicast flow (document 02, M-106). With none set and a plain query it is document
--- 01's.
+-- The election where the operator has set numbers and ranges of tags, for a plain query and for a multicast flow (document 02, M-106 and M-109). With none set and a plain
+-- query it is document 01's.
 --   Query                         == a plain query, or one for the flow (S,G) or (*,G), with the octets of S and G
 --   isAddressLength n             == whether an address of a flow may have n octets: 4 or 16
 --   rightLengths q                == whether the addresses of the query q have right lengths
 --   flowOctets q                  == the octets of its flow, S before G
 --   numberFor s q                 == the number that is set for its kind; 0 where none is, and for a plain query
 --   agreedOn a n                  == whether the routes agree on the number n that is set, where a is the algorithm in use
---   plainAlgorithm a              == the algorithm of a plain query, where a is in use: algorithm 1 for a number that is set
+--   plainAlgorithm s tag a        == the algorithm of a plain query for a tag, where a is in use: algorithm 1 for a number that is set, and for 2 and 3 the one that the tag's
+--                                    range names, if it is in one
 --   methodFor s q a tag i         == how one is chosen, where a is in use
 --   methodOf s q i l tag, candidatesOf s l ready == the method and the candidates among the entries l
 --   electWith s q i l tag ready   == the whole answer
@@ -20,6 +21,7 @@ use lib.Dec.{ltb, eqb}
 use Rattle.layout.specs.Table.{Entry}
 use Rattle.tags.specs.Tags.{reservedTag}
 use Rattle.hrw.specs.Weight.{flowDigestOf}
+use Rattle.ranges.specs.Ranges.{algorithmIn}
 use Rattle.settings.specs.Settings.{Settings}
 use Rattle.agreement.specs.Agreement.{inUseWith}
 use Rattle.ready.specs.Ready.{candidates, candidateSet}
@@ -54,13 +56,14 @@ numberFor s (anySource g) = s .anySource
 unfoldable pub agreedOn : ℕ → ℕ → Bool
 agreedOn a n = not (eqb n 0) && eqb a n
 
-unfoldable pub plainAlgorithm : ℕ → ℕ
-plainAlgorithm a = cond (ltb a 4) a 1
+-- ranges act only where 2 or 3 is in use
+unfoldable pub plainAlgorithm : Settings → ℕ → ℕ → ℕ
+plainAlgorithm s tag a = cond (ltb a 2) a (cond (ltb 3 a) 1 (algorithmIn (s .ranges) tag a))
 
 -- a flow of the agreed kind goes by its own digest, under algorithm 1's order, and the agreed number is told; every other query is a plain one
 unfoldable pub methodFor : Settings → Query → ℕ → ℕ → List ℕ → Method
 methodFor s q a tag i =
-    cond (agreedOn a (numberFor s q)) (record { algorithm = 1; digest = flowDigestOf (flowOctets q) tag i; told = a }) (byTag (plainAlgorithm a) tag i)
+    cond (agreedOn a (numberFor s q)) (record { algorithm = 1; digest = flowDigestOf (flowOctets q) tag i; told = a }) (byTag (plainAlgorithm s tag a) tag i)
 
 abbrev pub methodOf : Settings → Query → List ℕ → List Entry → ℕ → Method
 methodOf s q i l tag = methodFor s q (inUseWith s l .algorithm) tag i

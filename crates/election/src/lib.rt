@@ -7,8 +7,10 @@ use refusals::NONE_ELIGIBLE;
 use refusals::READY_TOO_LONG;
 use refusals::TAG_RESERVED;
 ghost use mathlib.Core.Path.{_≡_};
+ghost use mathlib.Core.Bool.{false};
 ghost use mathlib.Core.List.{_++_};
 ghost use lib.Count.{ones};
+ghost use Rattle.tags.specs.Tags.{reservedTag};
 ghost use Rattle.layout.specs.Words.{tableIn, Valid};
 ghost use Rattle.settings.specs.Settings.{settingsIn, ValidSettings};
 ghost use Rattle.ready.specs.Ready.{readyIn};
@@ -19,14 +21,18 @@ ghost use Rattle.election.specs.Steps.{ElectedFor};
 // The most rows that a ready list may have.
 const MAX_READY: usize = 64;
 
-// The algorithm of a plain query: the one in use, but algorithm 1 where the routes agree on a number that is set.
-pub fn plain_algorithm(in_use: u8) -> u8
-    ensures { λ r. ⌜ r ≡ plainAlgorithm «in_use» ⌝ }
+// The algorithm of a plain query for a tag: the one in use, but algorithm 1 where the routes agree on a number that is set, and for 2 and 3 the one that the tag's range names.
+pub fn plain_algorithm(settings: &[u32], tag: u32, in_use: u8) -> u8
+    requires { ⌜ ValidSettings (now settings) × (reservedTag tag ≡ false) ⌝ }
+    ensures { λ r. ⌜ r ≡ plainAlgorithm (settingsIn (now (settings .entry))) tag «in_use» ⌝ }
 {
-    if in_use < 4 {
+    if in_use < 2 {
         return in_use;
     }
-    1
+    if 3 < in_use {
+        return 1;
+    }
+    settings::algorithm_for(settings, tag, in_use)
 }
 
 // Whether the algorithm in use is a number that is set; 0 is none.
@@ -73,7 +79,7 @@ pub fn elect_query(
         let by_flow = answers::place_by_flow(t, set, source, group, tag);
         return answers::named(t, u.algorithm, set, by_flow);
     }
-    let algorithm = plain_algorithm(u.algorithm);
+    let algorithm = plain_algorithm(settings, tag, u.algorithm);
     let at = answers::place_by_tag(t, algorithm, set, tag);
     answers::named(t, algorithm, set, at)
 }

@@ -6,10 +6,11 @@ ghost use mathlib.Core.Path.{_≡_};
 ghost use Rattle.address.specs.Address.{addressRow};
 ghost use Rattle.ready.specs.Ready.{readyIn};
 ghost use Rattle.table.specs.Table.{freshTable, announced, withdrawn};
-ghost use Rattle.segment_state.specs.State.{freshSegment, segmentIn, ValidSegment, SegmentTold};
+ghost use Rattle.settings.specs.Settings.{rangesGiven};
+ghost use Rattle.segment_state.specs.State.{freshSegment, segmentIn, ValidSegment, SegmentTold, SetTold};
 ghost use Rattle.hrw.specs.Weight.{digestOf};
 ghost use Rattle.election.specs.Queries.{plain, electWith};
-ghost use Rattle.returning.specs.Returning.{returningOf};
+ghost use Rattle.returning.specs.Returning.{returningWith};
 ghost use Rattle.export_forms.specs.Forms.{exportedAnswer, handedIn};
 ghost use Rattle.exports.specs.Exports.{sentOf};
 
@@ -81,6 +82,16 @@ pub extern "C" fn segment_elect(s: &[u32], tag: u32, ready: &[u32]) -> Answer
     export_forms::exported(a)
 }
 
+// `segment::set_ranges`.
+#[no_mangle]
+pub extern "C" fn segment_set_ranges(s: &mut [u32], run: &[u32]) -> u8
+    requires { ⌜ ValidSegment (now s) ⌝ }
+    ensures answer { λ r. ⌜ SetTold (rangesGiven (segmentIn (now (s .entry)) .settings) (now (run .entry))) (segmentIn (now (s .entry)) .table) r (now (s .exit)) ⌝ }
+    ensures kept { λ _. ⌜ ValidSegment (now (s .exit)) ⌝ }
+{
+    segment::set_ranges(s, run)
+}
+
 // `segment::returning`.
 #[no_mangle]
 pub extern "C" fn segment_returning(
@@ -95,7 +106,7 @@ pub extern "C" fn segment_returning(
     dp: bool,
 ) -> Sent
     requires { ⌜ ValidSegment (now s) ⌝ }
-    ensures { λ r. ⌜ r ≡ sentOf (returningOf (segmentIn (now (s .entry)) .table .entries) (addressRow (handedIn v6 w0 w1 w2 w3)) algorithm preference dp) ⌝ }
+    ensures { λ r. ⌜ r ≡ sentOf (returningWith (segmentIn (now (s .entry)) .settings) (segmentIn (now (s .entry)) .table .entries) (addressRow (handedIn v6 w0 w1 w2 w3)) algorithm preference dp) ⌝ }
 {
     let address = export_forms::handed_in(v6, w0, w1, w2, w3);
     let told = segment::returning(s, address, algorithm, preference, dp);

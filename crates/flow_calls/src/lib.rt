@@ -6,7 +6,7 @@ ghost use mathlib.Core.Path.{_≡_};
 ghost use lib.Count.{ones};
 ghost use Rattle.ready.specs.Ready.{readyIn};
 ghost use Rattle.settings.specs.Settings.{numbersSet};
-ghost use Rattle.segment_state.specs.State.{segmentIn, ValidSegment, NumbersTold};
+ghost use Rattle.segment_state.specs.State.{segmentIn, ValidSegment, SetTold};
 ghost use Rattle.answers.specs.Answers.{Forwarder};
 ghost use Rattle.election.specs.Queries.{sourceGroup, anySource, methodOf, candidatesOf, electWith, NoneNamed};
 ghost use Rattle.demand3.specs.Calls as calls;
@@ -16,7 +16,7 @@ ghost use Rattle.demand3.specs.Demand3.{Follows};
 // kept. It acts at once upon routes that are present.
 pub fn set_flow_algorithms(s: &mut [u32], source_group: u8, any_source: u8) -> u8
     requires { ⌜ ValidSegment (now s) ⌝ }
-    ensures answer { λ r. ⌜ NumbersTold (numbersSet (segmentIn (now (s .entry)) .settings) «source_group» «any_source») (segmentIn (now (s .entry)) .table) r (now (s .exit)) ⌝ }
+    ensures answer { λ r. ⌜ SetTold (numbersSet (segmentIn (now (s .entry)) .settings) «source_group» «any_source») (segmentIn (now (s .entry)) .table) r (now (s .exit)) ⌝ }
     ensures kept { λ _. ⌜ ValidSegment (now (s .exit)) ⌝ }
     ensures call { λ r. ⌜ calls.Changes (segmentIn (now (s .entry))) (calls.setNumbers «source_group» «any_source») r (segmentIn (now (s .exit))) ⌝ }
     ensures follows { λ r. ⌜ Follows (segmentIn (now (s .entry))) (calls.setNumbers «source_group» «any_source») (calls.changeReply r) (segmentIn (now (s .exit))) ⌝ }

@@ -4,7 +4,7 @@ use export_forms::Answer;
 ghost use mathlib.Core.Path.{_≡_};
 ghost use Rattle.ready.specs.Ready.{readyIn};
 ghost use Rattle.settings.specs.Settings.{numbersSet};
-ghost use Rattle.segment_state.specs.State.{segmentIn, ValidSegment, NumbersTold};
+ghost use Rattle.segment_state.specs.State.{segmentIn, ValidSegment, SetTold};
 ghost use Rattle.election.specs.Queries.{sourceGroup, electWith};
 ghost use Rattle.export_forms.specs.Forms.{exportedAnswer};
 
@@ -12,7 +12,7 @@ ghost use Rattle.export_forms.specs.Forms.{exportedAnswer};
 #[no_mangle]
 pub extern "C" fn segment_set_flow_algorithms(s: &mut [u32], source_group: u8, any_source: u8) -> u8
     requires { ⌜ ValidSegment (now s) ⌝ }
-    ensures answer { λ r. ⌜ NumbersTold (numbersSet (segmentIn (now (s .entry)) .settings) «source_group» «any_source») (segmentIn (now (s .entry)) .table) r (now (s .exit)) ⌝ }
+    ensures answer { λ r. ⌜ SetTold (numbersSet (segmentIn (now (s .entry)) .settings) «source_group» «any_source») (segmentIn (now (s .entry)) .table) r (now (s .exit)) ⌝ }
     ensures kept { λ _. ⌜ ValidSegment (now (s .exit)) ⌝ }
 {
     segment::set_flow_algorithms(s, source_group, any_source)

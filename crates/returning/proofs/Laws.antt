@@ -3,13 +3,13 @@ use Prim.Native.Nat.{ℕ, zero, suc, _/_, _%_, _^_, _≤_, _<_, min}
 use native.Mathlib.Nat.{not-suc-le-zero}
 use native.Mathlib.Omega.{arith}
 use mathlib.Core.Path.{_≡_, ap, _∙_, sym, subst}
-use mathlib.Core.Bool.{Bool, true, false, _||_, or-true, and-false}
+use mathlib.Core.Bool.{Bool, true, false, cond, not, _||_, or-true, and-false}
 use mathlib.Core.List.{List, [], _∷_}
 use lib.ListN.{length, getD, set, replicate, length-replicate, getD-replicate, length-set, length-map}
 use lib.Dec.{eqb}
 use borrow.Author.Tests.{eq-eqb, ne-eqb}
 use Rattle.lists.specs.Lists.{all}
-use Rattle.lists.proofs.Bools.{bit-halves, one-of-two}
+use Rattle.lists.proofs.Bools.{true-false, by-test, no-choice, bit-halves, one-of-two}
 use Rattle.address.specs.Address.{addressKey, isZero}
 use Rattle.keyed.specs.Keyed.{Rising, dropAt}
 use Rattle.keyed.proofs.Order.{remove-absent}
@@ -21,9 +21,10 @@ use Rattle.layout.specs.Words.{standingOf}
 use Rattle.places.specs.Places.{places, setOf, picked, withoutPlace}
 use Rattle.places.proofs.Laws.{places-none, places-walk}
 use Rattle.places.proofs.Flags.{setOf-lt, picked-places, picked-all, withoutPlace-set}
-use Rattle.choice.specs.Choice.{bestOf}
-use Rattle.winner.specs.Winner.{better, entriesAt}
-use Rattle.returning.specs.Returning.{others, allUnder, reaches, sent, besideReference, advertised, returningOf}
+use Rattle.settings.specs.Settings.{Settings, anyRange}
+use Rattle.winner.specs.Winner.{entriesAt}
+use Rattle.returning.specs.declared.Sent.{Sent}
+use Rattle.returning.specs.Returning.{others, allUnder, reaches, sent, reference, fits, besideReference, keepsOwn, advertised, returningOf, besideBoth, advertisedBoth, returningWith}
 
 -- THE OTHER ROUTES
 picked-dropAt : {A : Type 0} (l : List A) (i : ℕ) → i < length l → picked (set (replicate (length l) true) i false) l ≡ dropAt l i
@@ -89,57 +90,101 @@ standing-halves : (e : Entry) → (standingOf e / 2 ≡ e .preference) × (eqb (
 unfolding standingOf
 standing-halves e = bit-halves (e .preference) (e .dp)
 
-module _ (os : List Entry) (g p : ℕ) where
-  pub own-clear : (d : Bool) → d ≡ false → sent 0 p d ≡ advertised g p d os
-  unfolding advertised
-  own-clear d e = rw e
+-- one reference, where the own DP is set
+module _ (g p : ℕ) (e : Entry) (s : ℕ) (k : s ≡ standingOf e) where
+  low : eqb (s % 2) 1 ≡ e .dp
+  low = rw k (standing-halves e .1)
+
+  high : s / 2 ≡ e .preference
+  high = rw k (standing-halves e .0)
+
+  pub reference-clear : (s % 2 ≡ 1 → ⊥) → sent 0 p true ≡ besideReference g p true e
+  unfolding besideReference fits
+  reference-clear n = sym (rw (sym low ∙ ne-eqb (s % 2) 1 n))
+
+  pub not-reached : reaches g p (s / 2) ≡ false → sent 0 p true ≡ besideReference g p true e
+  unfolding besideReference fits
+  not-reached r = sym (rw (sym (ap (reaches g p) high) ∙ r, and-false (e .dp)))
+
+  pub reached : s % 2 ≡ 1 → reaches g p (s / 2) ≡ true → sent 0 (s / 2) false ≡ besideReference g p true e
+  unfolding besideReference fits
+  reached c r = sym (rw (sym low ∙ eq-eqb (s % 2) 1 c, sym (ap (reaches g p) high) ∙ r, ← high))
+
+-- both, by the DP that the first is sent with
+module _ (p : ℕ) (os : List Entry) (r : Sent) (q : r ≡ besideReference 2 p true (reference 2 os)) where
+  dp-told : (b : Bool) → fits 2 p (reference 2 os) ≡ b → r .dp ≡ not b
+  unfolding besideReference
+  dp-told true e = ap (λ (x : Sent). x .dp) q ∙ rw e
+  dp-told false e = ap (λ (x : Sent). x .dp) q ∙ rw e
+
+  pub highest-fits : r .dp ≡ false → r ≡ besideBoth p true os
+  unfolding besideBoth besideReference
+  highest-fits d =
+      by-test (fits 2 p (reference 2 os))
+      (λ e. q ∙ rw e)
+      (λ e. absurd (true-false (dp-told false e) d))
+
+  pub lowest-left : r .dp ≡ true → besideReference 3 p true (reference 3 os) ≡ besideBoth p true os
+  unfolding besideBoth
+  lowest-left d =
+      by-test (fits 2 p (reference 2 os))
+      (λ e. absurd (true-false d (dp-told true e)))
+      (λ e. sym (rw e))
+
+-- beside the other routes, whether ranges are set or not
+module _ (os : List Entry) (b : Bool) (g p : ℕ) where
+  abbrev pub Beside : Bool → Sent
+  Beside d = cond b (advertisedBoth g p d os) (advertised g p d os)
+
+  own-kept : (d : Bool) → keepsOwn g d os ≡ true → sent 0 p d ≡ Beside d
+  unfolding advertised advertisedBoth
+  own-kept d h = rw h (no-choice true b (sent 0 p d))
+
+  pub own-clear : (d : Bool) → d ≡ false → sent 0 p d ≡ Beside d
+  unfolding keepsOwn
+  own-clear d e = own-kept d (rw e)
 
   module _ (d : Bool) (own : d ≡ true) where
-    pub none-stands : length os ≡ 0 → sent 0 p d ≡ advertised g p d os
-    unfolding advertised
-    none-stands z = rw (own, eq-eqb (length os) 0 z)
+    pub none-stands : length os ≡ 0 → sent 0 p d ≡ Beside d
+    unfolding keepsOwn
+    none-stands z = own-kept d (rw (own, eq-eqb (length os) 0 z))
 
-    pub other-algorithm : allUnder g os ≡ false → sent 0 p d ≡ advertised g p d os
-    unfolding advertised
-    other-algorithm h = rw (own, h, or-true (eqb (length os) 0))
+    pub other-algorithm : allUnder g os ≡ false → sent 0 p d ≡ Beside d
+    unfolding keepsOwn
+    other-algorithm h = own-kept d (rw (own, h, or-true (eqb (length os) 0)))
 
-    module _ (z : length os ≡ 0 → ⊥) (u : allUnder g os ≡ true) (e : Entry) (w : e ≡ bestOf (better g 0) noEntry os) (s : ℕ) (k : s ≡ standingOf e) where
-      sends : advertised g p d os ≡ besideReference g p d e
+    module _ (z : length os ≡ 0 → ⊥) (u : allUnder g os ≡ true) where
+      looks : keepsOwn g d os ≡ false
+      unfolding keepsOwn
+      looks = rw (own, ne-eqb (length os) 0 z, u)
+
+      pub beside-both : b ≡ true → besideBoth p true os ≡ Beside d
+      unfolding advertisedBoth
+      beside-both e = sym (rw (e, looks, own))
+
+      pub beside-one : b ≡ false → besideReference g p true (reference g os) ≡ Beside d
       unfolding advertised
-      sends = rw (own, ne-eqb (length os) 0 z, u, w)
-
-      low : eqb (s % 2) 1 ≡ e .dp
-      low = rw k (standing-halves e .1)
-
-      high : s / 2 ≡ e .preference
-      high = rw k (standing-halves e .0)
-
-      pub reference-clear : (s % 2 ≡ 1 → ⊥) → sent 0 p d ≡ advertised g p d os
-      unfolding besideReference
-      reference-clear n = sym (sends ∙ rw (sym low ∙ ne-eqb (s % 2) 1 n))
-
-      pub not-reached : reaches g p (s / 2) ≡ false → sent 0 p d ≡ advertised g p d os
-      unfolding besideReference
-      not-reached r = sym (sends ∙ rw (sym (ap (reaches g p) high) ∙ r, and-false (e .dp)))
-
-      pub reached : s % 2 ≡ 1 → reaches g p (s / 2) ≡ true → sent 0 (s / 2) false ≡ advertised g p d os
-      unfolding besideReference
-      reached c r = sym (sends ∙ rw (sym low ∙ eq-eqb (s % 2) 1 c, sym (ap (reaches g p) high) ∙ r, ← high))
+      beside-one e = sym (rw (e, looks, own))
 
 -- THE WHOLE ANSWER
-module _ (l : List Entry) (a : List ℕ) (g p : ℕ) (d : Bool) where
-  pub wrong-algorithm : (g ≡ 2 → ⊥) → (g ≡ 3 → ⊥) → sent 15 0 false ≡ returningOf l a g p d
-  unfolding returningOf
+module _ (s : Settings) (l : List Entry) (a : List ℕ) (g p : ℕ) (d : Bool) where
+  pub wrong-algorithm : (g ≡ 2 → ⊥) → (g ≡ 3 → ⊥) → sent 15 0 false ≡ returningWith s l a g p d
+  unfolding returningWith
   wrong-algorithm m n = rw (ne-eqb g 2 m, ne-eqb g 3 n)
 
   module _ (h : 2 ≤ g) (k : g ≤ 3) where
     usable : (eqb g 2 || eqb g 3) ≡ true
     usable = one-of-two 2 g h k
 
-    pub zero-address : isZero a ≡ true → sent 6 0 false ≡ returningOf l a g p d
-    unfolding returningOf
+    pub zero-address : isZero a ≡ true → sent 6 0 false ≡ returningWith s l a g p d
+    unfolding returningWith
     zero-address z = rw (usable, z)
 
-    pub sent-beside : isZero a ≡ false → advertised g p d (others a l) ≡ returningOf l a g p d
-    unfolding returningOf
+    pub sent-beside : isZero a ≡ false → Beside (others a l) (anyRange s) g p d ≡ returningWith s l a g p d
+    unfolding returningWith
     sent-beside z = rw (usable, z)
+
+  -- with no range set it is document 01's
+  pub returning-none : anyRange s ≡ false → returningWith s l a g p d ≡ returningOf l a g p d
+  unfolding returningWith returningOf
+  returning-none e = rw e

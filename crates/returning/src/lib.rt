@@ -1,18 +1,19 @@
-// The preference and the DP bit that a router advertises when it comes back from repair (RFC 9785, section 4.3).
+// The preference and the DP bit that a router advertises when it comes back from repair (RFC 9785, section 4.3), also where ranges of tags are set.
 use address::Address;
 use refusals::ADDRESS_ZERO;
 use refusals::ALGORITHM_NOT_USABLE;
 use rows::Found;
 ghost use mathlib.Core.Path.{_≡_};
-ghost use mathlib.Core.Bool.{false};
+ghost use mathlib.Core.Bool.{true, false, cond};
 ghost use Prim.Native.Nat.{_<_, _^_};
 ghost use lib.ListN.{length};
 ghost use Rattle.address.specs.Address.{addressRow};
 ghost use Rattle.layout.specs.Words.{tableIn, Valid};
+ghost use Rattle.settings.specs.Settings.{settingsIn, ValidSettings};
 ghost use Rattle.places.specs.Places.{places};
 ghost use Rattle.winner.specs.Winner.{entriesAt};
 ghost use Rattle.returning.specs.Returning as returning;
-ghost use Rattle.returning.specs.Returning.{allUnder, reaches, advertised, returningOf};
+ghost use Rattle.returning.specs.Returning.{allUnder, reaches, reference, besideReference, besideBoth, advertised, advertisedBoth, returningWith};
 
 // The answer: 0 and the pair that is sent, or a refusal number and zeros.
 pub struct Sent {
@@ -61,25 +62,16 @@ fn reach(algorithm: u8, own: u16, reference: u16) -> bool
     reference <= own
 }
 
-// What is sent beside the other routes, which stand at a set of places.
-fn beside(t: &[u32], set: u64, algorithm: u8, preference: u16, dp: bool) -> Sent
-    requires { ⌜ Valid (now t) × (set < 2 ^ length (tableIn (now t) .entries)) ⌝ }
-    ensures { λ r. ⌜ r ≡ advertised algorithm preference dp (entriesAt (tableIn (now (t .entry)) .entries) (places set)) ⌝ }
+// What is sent beside the reference of an algorithm among the routes of a set of places, where the own DP is set.
+fn beside_reference(t: &[u32], set: u64, algorithm: u8, preference: u16) -> Sent
+    requires { ⌜ Valid (now t) × (set < 2 ^ length (tableIn (now t) .entries)) × (set ≡ 0 → ⊥) ⌝ }
+    ensures { λ r. ⌜ r ≡ besideReference algorithm preference true (reference algorithm (entriesAt (tableIn (now (t .entry)) .entries) (places set))) ⌝ }
 {
     let own = Sent {
         number: 0,
         preference: preference,
-        dp: dp,
+        dp: true,
     };
-    if !dp {
-        return own;
-    }
-    if set == 0 {
-        return own;
-    }
-    if !all_under(t, set, algorithm) {
-        return own;
-    }
     let at = winner::best(t, set, algorithm, 0);
     let standing = layout::standing_at(t, at);
     if standing % 2 != 1 {
@@ -96,6 +88,43 @@ fn beside(t: &[u32], set: u64, algorithm: u8, preference: u16, dp: bool) -> Sent
     }
 }
 
+// What is sent beside both references, where the own DP is set: one that fits is sent with DP clear, which tells that it fits.
+fn beside_both(t: &[u32], set: u64, preference: u16) -> Sent
+    requires { ⌜ Valid (now t) × (set < 2 ^ length (tableIn (now t) .entries)) × (set ≡ 0 → ⊥) ⌝ }
+    ensures { λ r. ⌜ r ≡ besideBoth preference true (entriesAt (tableIn (now (t .entry)) .entries) (places set)) ⌝ }
+{
+    let highest = beside_reference(t, set, 2, preference);
+    if !highest.dp {
+        return highest;
+    }
+    beside_reference(t, set, 3, preference)
+}
+
+// What is sent beside the other routes, which stand at a set of places; `ranges` tells whether any range is set.
+fn beside(t: &[u32], set: u64, ranges: bool, algorithm: u8, preference: u16, dp: bool) -> Sent
+    requires { ⌜ Valid (now t) × (set < 2 ^ length (tableIn (now t) .entries)) ⌝ }
+    ensures { λ r. ⌜ r ≡ cond ranges (advertisedBoth algorithm preference dp (entriesAt (tableIn (now (t .entry)) .entries) (places set))) (advertised algorithm preference dp (entriesAt (tableIn (now (t .entry)) .entries) (places set))) ⌝ }
+{
+    let own = Sent {
+        number: 0,
+        preference: preference,
+        dp: dp,
+    };
+    if !dp {
+        return own;
+    }
+    if set == 0 {
+        return own;
+    }
+    if !all_under(t, set, algorithm) {
+        return own;
+    }
+    if ranges {
+        return beside_both(t, set, preference);
+    }
+    beside_reference(t, set, algorithm, preference)
+}
+
 fn refusal(number: u8) -> Sent
     ensures { λ r. ⌜ r ≡ returning.sent number 0 false ⌝ }
 {
@@ -108,10 +137,17 @@ fn refusal(number: u8) -> Sent
 
 // What a returning router advertises: 15 for an own algorithm that is not 2 or 3, 6 for address zero. The own entry is passed over. The administrative pair is
 // sent unless the own DP is set, others stand, all on the own algorithm, and the reference among them has DP set and a preference that the own one reaches:
-// then the reference's preference is sent with DP clear.
-pub fn returning(t: &[u32], address: Address, algorithm: u8, preference: u16, dp: bool) -> Sent
-    requires { ⌜ Valid (now t) ⌝ }
-    ensures { λ r. ⌜ r ≡ returningOf (tableIn (now (t .entry)) .entries) (addressRow address) algorithm preference dp ⌝ }
+// then the reference's preference is sent with DP clear. With any range set both references are tried, the Highest before the Lowest.
+pub fn returning(
+    t: &[u32],
+    settings: &[u32],
+    address: Address,
+    algorithm: u8,
+    preference: u16,
+    dp: bool,
+) -> Sent
+    requires { ⌜ Valid (now t) × ValidSettings (now settings) ⌝ }
+    ensures { λ r. ⌜ r ≡ returningWith (settingsIn (now (settings .entry))) (tableIn (now (t .entry)) .entries) (addressRow address) algorithm preference dp ⌝ }
 {
     if algorithm < 2 {
         return refusal(ALGORITHM_NOT_USABLE);
@@ -123,5 +159,6 @@ pub fn returning(t: &[u32], address: Address, algorithm: u8, preference: u16, dp
         return refusal(ADDRESS_ZERO);
     }
     let set = others(t, address);
-    beside(t, set, algorithm, preference, dp)
+    let ranges = settings::any_range(settings);
+    beside(t, set, ranges, algorithm, preference, dp)
 }

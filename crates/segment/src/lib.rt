@@ -1,5 +1,5 @@
-// What users link: the calls of one segment, those for multicast flows (`flow_calls`), and those of the table of its Ethernet A-D routes (`circuit_calls`). The state of a segment is 397 words, its route table and
-// what the operator has set, which the fresh call makes and the others are lent.
+// What users link: the calls of one segment, those for multicast flows (`flow_calls`) and for ranges of tags (`range_calls`), and those of the table of its Ethernet A-D routes
+// (`circuit_calls`). The state of a segment is 446 words, its route table and what the operator has set, which the fresh call makes and the others are lent.
 // The fresh call promises demand 3 of every list of calls; each call promises that it is one more call of the list.
 use address::Address;
 use answers::Answer;
@@ -11,24 +11,25 @@ pub use circuits::Scope;
 pub use flow_calls::elect_any_source;
 pub use flow_calls::elect_source_group;
 pub use flow_calls::set_flow_algorithms;
+pub use range_calls::set_ranges;
 use returning::Sent;
 use segment_state::SETTINGS;
 pub use segment_state::WORDS;
 use table::Verdict;
 ghost use mathlib.Core.Path.{_≡_};
 ghost use mathlib.Core.List.{List, []};
-ghost use mathlib.Core.Bool.{true};
+ghost use mathlib.Core.Bool.{true, false};
 ghost use lib.Count.{ones};
 ghost use Rattle.address.specs.Address.{addressRow};
 ghost use Rattle.ready.specs.Ready.{readyIn};
 ghost use Rattle.route.specs.Route.{Fault, routeNumber};
 ghost use Rattle.table.specs.Table.{freshTable, announced, withdrawn};
-ghost use Rattle.settings.specs.Settings.{noneSet};
+ghost use Rattle.settings.specs.Settings.{noneSet, anyRange};
 ghost use Rattle.segment_state.specs.State.{freshSegment, segmentIn, ValidSegment, SegmentTold};
 ghost use Rattle.answers.specs.Answers.{Forwarder};
 ghost use Rattle.election.specs.Election.{electOf};
 ghost use Rattle.election.specs.Queries.{plain, methodOf, candidatesOf, electWith, NoneNamed};
-ghost use Rattle.returning.specs.Returning.{returningOf};
+ghost use Rattle.returning.specs.Returning.{returningOf, returningWith};
 ghost use Rattle.demand3.specs.Calls as calls;
 ghost use Rattle.demand3.specs.Demand3.{Demand3, Follows, segmentAfter};
 ghost use Rattle.demand3.specs.Values.{starred, allRight};
@@ -97,12 +98,20 @@ pub fn elect(s: &[u32], tag: u32, ready: &[u32]) -> Answer
     election::elect(&s[..SETTINGS], &s[SETTINGS..], tag, ready)
 }
 
-// What a returning router advertises: 15 for an own algorithm that is not 2 or 3, 6 for address zero.
+// What a returning router advertises: 15 for an own algorithm that is not 2 or 3, 6 for address zero. With no range set the answer is document 01's.
 pub fn returning(s: &[u32], address: Address, algorithm: u8, preference: u16, dp: bool) -> Sent
     requires { ⌜ ValidSegment (now s) ⌝ }
-    ensures answer { λ r. ⌜ r ≡ returningOf (segmentIn (now (s .entry)) .table .entries) (addressRow address) algorithm preference dp ⌝ }
+    ensures answer { λ r. ⌜ r ≡ returningWith (segmentIn (now (s .entry)) .settings) (segmentIn (now (s .entry)) .table .entries) (addressRow address) algorithm preference dp ⌝ }
+    ensures no_range { λ r. ⌜ (anyRange (segmentIn (now (s .entry)) .settings) ≡ false → r ≡ returningOf (segmentIn (now (s .entry)) .table .entries) (addressRow address) algorithm preference dp) ⌝ }
     ensures call { λ r. ⌜ calls.replyTo (segmentIn (now (s .entry))) (calls.returning (addressRow address) algorithm preference dp) ≡ calls.returningReply r ⌝ }
     ensures follows { λ r. ⌜ Follows (segmentIn (now (s .entry))) (calls.returning (addressRow address) algorithm preference dp) (calls.returningReply r) (segmentIn (now (s .entry))) ⌝ }
 {
-    returning::returning(&s[..SETTINGS], address, algorithm, preference, dp)
+    returning::returning(
+        &s[..SETTINGS],
+        &s[SETTINGS..],
+        address,
+        algorithm,
+        preference,
+        dp,
+    )
 }

@@ -1,14 +1,14 @@
 -- Laws of the state's words: its two parts, and what is left of it when one of them is written anew. Assumes nothing.
 use Prim.Native.Nat.{ℕ, _-_}
 use native.Mathlib.Omega.{arith}
-use mathlib.Core.Path.{_≡_, refl, ap, _∙_, sym, subst}
-use mathlib.Core.List.{List, _++_, append-nil}
-use lib.ListN.{length, take, drop, length-drop, drop-of-length-le}
-use lib.Seq.{take-all, take-append-seam, drop-append-seam}
+use mathlib.Core.Path.{_≡_, subst}
+use mathlib.Core.List.{List, _++_}
+use lib.ListN.{length, take, drop, length-drop}
+use lib.Seq.{take-append-seam, drop-append-seam}
 use Rattle.layout.specs.Words.{tableIn, Valid}
 use Rattle.layout.proofs.Words.{length-valid}
 use Rattle.settings.specs.Settings.{settingsIn, ValidSettings}
-use Rattle.settings.proofs.Laws.{length-settings}
+use Rattle.settings.proofs.Laws.{length-settings, part-from, none-behind}
 use Rattle.segment_state.specs.State.{Segment, segmentIn, ValidSegment}
 
 -- A STATE PUT TOGETHER from the words of a table and those of settings
@@ -25,12 +25,12 @@ module _ (x y : List ℕ) (v : Valid x) (w : ValidSettings y) where
 
 -- A STATE TAKEN APART
 module _ (b : List ℕ) (v : ValidSegment b) where
-  pub length-state : length b ≡ 397
+  pub length-state : length b ≡ 446
   length-state = omega (arith, length-settings (drop 395 b) (v .settings), length-drop 395 b)
 
   -- the words after the table's, as they are lent
   pub settings-part : take (length b - 395) (drop 395 b) ≡ drop 395 b
-  settings-part = take-all (length b - 395) (drop 395 b) (omega (arith, length-drop 395 b))
+  settings-part = part-from 395 b
 
   pub valid-settings-part : ValidSettings (take (length b - 395) (drop 395 b))
   valid-settings-part = rw settings-part (v .settings)
@@ -40,11 +40,8 @@ module _ (b : List ℕ) (v : ValidSegment b) where
   unfolding segmentIn
   table-written y w = together y (drop 395 b) w (v .settings)
 
-  none-after : (y : List ℕ) → y ++ drop (length b - 395) (drop 395 b) ≡ y
-  none-after y = ap (λ (l : List ℕ). y ++ l) (drop-of-length-le (drop 395 b) {i = length b - 395} (omega (arith, length-drop 395 b))) ∙ append-nil y
-
   pub settings-written : (y : List ℕ) → ValidSettings y
       → (segmentIn (take 395 b ++ (y ++ drop (length b - 395) (drop 395 b))) ≡ record { table = segmentIn b .table; settings = settingsIn y })
       × ValidSegment (take 395 b ++ (y ++ drop (length b - 395) (drop 395 b)))
   unfolding segmentIn
-  settings-written y w = rw (none-after y) (together (take 395 b) y (v .table) w)
+  settings-written y w = rw (none-behind 395 b y) (together (take 395 b) y (v .table) w)

@@ -1,4 +1,4 @@
--- The state of a segment: its route table (document 01, "The table") and what the operator has set upon it (document 02, M-106), in 397 words that a caller lends:
+-- The state of a segment: its route table (document 01, "The table") and what the operator has set upon it (document 02, M-106 and M-109), in 446 words that a caller lends:
 -- the table's 395, and then those of the settings.
 --   Segment          == a route table and settings
 --   freshSegment i   == what the fresh call leaves for the identifier i: an empty table, and none set
@@ -6,7 +6,7 @@
 --   segmentIn b      == the state that lies in the words b
 --   ValidSegment b   == b is the words of a state that the calls can have made
 --   SegmentTold c g n p b == the number n, the offset p and the state in the words b are what the answer c of a call of the table says, where g is set
---   NumbersTold c t n b   == the number n and the state in the words b are what the answer c of a setting says, where the table is t
+--   SetTold c t n b       == the number n and the state in the words b are what the answer c of a setting says, where the table is t
 use Prim.Native.Nat.{ℕ}
 use mathlib.Core.Path.{_≡_}
 use mathlib.Core.List.{List, _++_}
@@ -37,5 +37,5 @@ pub record ValidSegment (b : List ℕ) : Type 0 where
 abbrev pub SegmentTold : Change → Settings → ℕ → ℕ → List ℕ → Type 0
 SegmentTold c g n p b = (n ≡ c .number) × (p ≡ c .offset) × (segmentIn b ≡ record { table = c .table; settings = g })
 
-abbrev pub NumbersTold : SettingsChange → Table → ℕ → List ℕ → Type 0
-NumbersTold c t n b = (n ≡ c .number) × (segmentIn b ≡ record { table = t; settings = c .settings })
+abbrev pub SetTold : SettingsChange → Table → ℕ → List ℕ → Type 0
+SetTold c t n b = (n ≡ c .number) × (segmentIn b ≡ record { table = t; settings = c .settings })

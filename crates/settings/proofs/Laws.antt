@@ -1,49 +1,78 @@
--- Laws of `specs/Settings.antt`: settings and their words, what setting numbers answers and keeps, and which numbers are set. Assumes nothing.
-use Prim.Native.Nat.{ℕ, _≤_, _<_}
+-- Laws of `specs/Settings.antt`: settings and their words, what setting numbers or ranges answers and keeps, and which numbers are set. Assumes nothing.
+use Prim.Native.Nat.{ℕ, suc, _-_, _≤_, _<_}
 use native.Mathlib.Omega.{arith}
-use mathlib.Core.Path.{_≡_, refl, ap, _∙_, sym}
+use mathlib.Core.Path.{_≡_, refl, ap, _∙_, sym, subst}
 use mathlib.Core.Bool.{Bool, true, false, not, _&&_, _||_}
-use mathlib.Core.List.{List, [], _∷_}
+use mathlib.Core.List.{List, [], _∷_, _++_, append-nil}
 use mathlib.Core.Logic.{_⊎_, inl, inr, ⊎-elim}
-use lib.ListN.{length, set}
+use lib.ListN.{length, getD, set, take, drop, replicate, length-drop, drop-of-length-le}
+use lib.Seq.{take-all}
 use lib.Dec.{ltb, leb, eqb}
 use borrow.Author.Tests.{ltb-true, eqb-true, le-leb, lt-leb, lt-ltb, le-ltb, eq-eqb, ne-eqb}
 use Rattle.refusals.specs.Refusals.{algorithmNotUsable}
 use Rattle.lists.proofs.Bools.{by-test, cond-by, true-false, not-eq}
 use Rattle.lists.proofs.Numbers.{either}
-use Rattle.settings.specs.Settings.{Settings, noneSet, fromFourToThirty, mayBeSet, isSet, numbersSet, settingsWords, settingsIn, SettingsRight, ValidSettings, SettingsTold}
+use Rattle.rows.specs.Rows.{flat}
+use Rattle.ranges.specs.Ranges.{rangesSet, RangesRight, rangesWords, rangesIn, ValidRanges, RangesTold}
+use Rattle.ranges.proofs.Laws as ranges
+use Rattle.settings.specs.Settings.{Settings, noneSet, fromFourToThirty, mayBeSet, isSet, anyRange, numbersSet, rangesGiven, settingsWords, settingsIn, SettingsRight, ValidSettings, SettingsTold}
+
+-- A PART of words, from a place on to the end, as it is lent, and written anew
+module _ (k : ℕ) (b : List ℕ) where
+  pub part-from : take (length b - k) (drop k b) ≡ drop k b
+  part-from = take-all (length b - k) (drop k b) (omega (arith, length-drop k b))
+
+  pub none-behind : (y : List ℕ) → y ++ drop (length b - k) (drop k b) ≡ y
+  none-behind y = ap (λ (l : List ℕ). y ++ l) (drop-of-length-le (drop k b) {i = length b - k} (omega (arith, length-drop k b))) ∙ append-nil y
 
 -- WORDS
-pub settings-words-in : (s : Settings) (b : List ℕ) → b ≡ settingsWords s → settingsIn b ≡ s
+pub settings-words-in : (s : Settings) (b : List ℕ) → RangesRight (s .ranges) → b ≡ settingsWords s → settingsIn b ≡ s
 unfolding settingsWords settingsIn
-settings-words-in s b e = rw e
-
-pub length-settings : (b : List ℕ) → ValidSettings b → length b ≡ 2
-unfolding settingsWords
-length-settings b v = ap length (v .whole)
+settings-words-in s b r e = rw (e, ranges.ranges-words-in (s .ranges) (rangesWords (s .ranges)) r refl)
 
 pub none-right : SettingsRight noneSet
-none-right = inl refl
+none-right = record { numbers = inl (refl, refl); ranges = ranges.none-ranges }
 
 -- the words of settings that the calls can have made
 pub words-valid : (s : Settings) (b : List ℕ) → b ≡ settingsWords s → SettingsRight s → ValidSettings b
 words-valid s b e r =
-    let i = settings-words-in s b e in record {
-      sound = rw i r;
+    let i = settings-words-in s b (r .ranges) e in record {
+      sound = subst SettingsRight (sym i) r;
       whole = e ∙ ap settingsWords (sym i);
     }
 
-pub zeros-none : (settingsIn (0 ∷ (0 ∷ [])) ≡ noneSet) × ValidSettings (0 ∷ (0 ∷ []))
-unfolding settingsWords settingsIn
-zeros-none = (refl, words-valid noneSet (0 ∷ (0 ∷ [])) refl none-right)
-
--- both words written anew
-pub words-set : (b : List ℕ) (x y : ℕ) → length b ≡ 2 → set (set b 0 x) 1 y ≡ settingsWords (record { sourceGroup = x; anySource = y })
+pub zeros-none : (settingsIn (replicate 51 0) ≡ noneSet) × ValidSettings (replicate 51 0)
 unfolding settingsWords
-words-set [] x y h = absurd (omega arith)
-words-set (p ∷ []) x y h = absurd (omega arith)
-words-set (p ∷ (q ∷ [])) x y h = refl
-words-set (p ∷ (q ∷ (r ∷ b))) x y h = absurd (omega arith)
+zeros-none =
+    let e : replicate 51 0 ≡ settingsWords noneSet = ap (λ (l : List ℕ). 0 ∷ 0 ∷ l) (ranges.zeros-none .1 .whole ∙ ap rangesWords (ranges.zeros-none .0)) in
+    (settings-words-in noneSet (replicate 51 0) ranges.none-ranges e, words-valid noneSet (replicate 51 0) e none-right)
+
+-- their parts
+module _ (b : List ℕ) (v : ValidSettings b) where
+  parted : b ≡ getD b 0 0 ∷ getD b 1 0 ∷ rangesWords (rangesIn (drop 2 b))
+  unfolding settingsWords settingsIn
+  parted = v .whole
+
+  pub valid-ranges : ValidRanges (drop 2 b)
+  unfolding settingsIn
+  valid-ranges = ranges.words-valid (rangesIn (drop 2 b)) (drop 2 b) (v .sound .ranges) (ap (drop 2) parted)
+
+  pub length-settings : length b ≡ 51
+  length-settings = ap length parted ∙ ap (λ (n : ℕ). suc (suc n)) (ap length (sym (valid-ranges .whole)) ∙ ranges.length-ranges (drop 2 b) valid-ranges)
+
+  pub valid-ranges-part : ValidRanges (take (length b - 2) (drop 2 b))
+  valid-ranges-part = rw (part-from 2 b) valid-ranges
+
+  -- both numbers written anew
+  pub words-set : (x y : ℕ) → set (set b 0 x) 1 y ≡ settingsWords (record { sourceGroup = x; anySource = y; ranges = settingsIn b .ranges })
+  unfolding settingsWords settingsIn
+  words-set x y = ap (λ (l : List ℕ). set (set l 0 x) 1 y) parted
+
+  -- and the ranges'
+  ranges-set : (y : List ℕ) (l : List (List ℕ)) → y ≡ rangesWords l
+      → take 2 b ++ (y ++ drop (length b - 2) (drop 2 b)) ≡ settingsWords (record { sourceGroup = settingsIn b .sourceGroup; anySource = settingsIn b .anySource; ranges = l })
+  unfolding settingsWords settingsIn
+  ranges-set y l e = rw (none-behind 2 b y) (ap (λ (x : List ℕ). take 2 x ++ y) parted ∙ ap (λ (x : List ℕ). getD b 0 0 ∷ getD b 1 0 ∷ x) e)
 
 -- NUMBERS THAT MAY BE SET
 pub below-four : (a : ℕ) → a < 4 → fromFourToThirty a ≡ false
@@ -86,29 +115,59 @@ module _ (a b : ℕ) where
 
 -- WHAT SETTING THEM ANSWERS AND KEEPS
 module _ (s : Settings) (a b : ℕ) where
+  abbrev pub withNumbers : Settings
+  withNumbers = record { sourceGroup = a; anySource = b; ranges = s .ranges }
+
   pub numbers-kept : SettingsRight s → SettingsRight (numbersSet s a b .settings)
   unfolding numbersSet
-  numbers-kept r = cond-by SettingsRight (mayBeSet a b) (λ e. inr e) (λ _. r)
+  numbers-kept r = cond-by SettingsRight (mayBeSet a b) (λ e. record { numbers = inr e; ranges = r .ranges }) (λ _. r)
 
   pub numbers-refused : (numbersSet s a b .number ≡ 0 → ⊥) → numbersSet s a b .settings ≡ s
   unfolding numbersSet
   numbers-refused n = by-test (mayBeSet a b) (λ e. absurd (n (rw e))) (λ e. rw e)
 
-pub numbers-again : (a b : ℕ) → mayBeSet a b ≡ true → (s : Settings) → (numbersSet s a b .number ≡ 0) × (numbersSet s a b .settings ≡ record { sourceGroup = a; anySource = b })
-unfolding numbersSet
-numbers-again a b e s = (rw e, rw e)
-
--- the returns of the call that sets them: refused, the words stay; accepted, both are written
-module _ (w : List ℕ) (v : ValidSettings w) (a b : ℕ) where
-  pub numbers-told-refused : mayBeSet a b ≡ false → SettingsTold (numbersSet (settingsIn w) a b) algorithmNotUsable w × ValidSettings w
+  pub numbers-again : mayBeSet a b ≡ true → (numbersSet s a b .number ≡ 0) × (numbersSet s a b .settings ≡ withNumbers)
   unfolding numbersSet
-  numbers-told-refused e = ((rw e, rw e), v)
+  numbers-again e = (rw e, rw e)
 
-  pub numbers-told-set : mayBeSet a b ≡ true → SettingsTold (numbersSet (settingsIn w) a b) 0 (set (set w 0 a) 1 b) × ValidSettings (set (set w 0 a) 1 b)
-  numbers-told-set e =
-      let now = words-set w a b (length-settings w v) in
-      let told = numbers-again a b e (settingsIn w) in
-      ((sym (told .0), settings-words-in (record { sourceGroup = a; anySource = b }) _ now ∙ sym (told .1)), words-valid (record { sourceGroup = a; anySource = b }) _ now (inr e))
+module _ (s : Settings) (w : List ℕ) where
+  abbrev pub withRanges : List (List ℕ) → Settings
+  withRanges l = record { sourceGroup = s .sourceGroup; anySource = s .anySource; ranges = l }
+
+  pub given-kept : SettingsRight s → SettingsRight (rangesGiven s w .settings)
+  unfolding rangesGiven
+  given-kept r = record { numbers = r .numbers; ranges = ranges.ranges-kept (s .ranges) w (r .ranges) }
+
+  pub given-refused : (rangesGiven s w .number ≡ 0 → ⊥) → rangesGiven s w .settings ≡ s
+  unfolding rangesGiven
+  given-refused n = ap withRanges (ranges.ranges-refused (s .ranges) w n)
+
+pub given-again : (s : Settings) (l : List (List ℕ)) → RangesRight l → (rangesGiven s (flat l) .number ≡ 0) × (rangesGiven s (flat l) .settings ≡ withRanges s [] l)
+unfolding rangesGiven
+given-again s l r = let t = ranges.ranges-again l (s .ranges) r in (t .0, ap (withRanges s []) (t .1))
+
+-- the returns of the calls that set them: refused, the words stay; accepted, they are written anew
+module _ (w : List ℕ) (v : ValidSettings w) where
+  module _ (a b : ℕ) where
+    pub numbers-told-refused : mayBeSet a b ≡ false → SettingsTold (numbersSet (settingsIn w) a b) algorithmNotUsable w × ValidSettings w
+    unfolding numbersSet
+    numbers-told-refused e = ((rw e, rw e), v)
+
+    pub numbers-told-set : mayBeSet a b ≡ true → SettingsTold (numbersSet (settingsIn w) a b) 0 (set (set w 0 a) 1 b) × ValidSettings (set (set w 0 a) 1 b)
+    numbers-told-set e =
+        let now = words-set w v a b in
+        let told = numbers-again (settingsIn w) a b e in
+        let is = withNumbers (settingsIn w) a b in
+        ((sym (told .0), settings-words-in is _ (v .sound .ranges) now ∙ sym (told .1)), words-valid is _ now (record { numbers = inr e; ranges = v .sound .ranges }))
+
+  pub ranges-told : (run : List ℕ) (n : ℕ) (y : List ℕ) → RangesTold (rangesSet (rangesIn (take (length w - 2) (drop 2 w))) run) n y → ValidRanges y
+      → SettingsTold (rangesGiven (settingsIn w) run) n (take 2 w ++ (y ++ drop (length w - 2) (drop 2 w))) × ValidSettings (take 2 w ++ (y ++ drop (length w - 2) (drop 2 w)))
+  unfolding rangesGiven settingsIn
+  ranges-told run n y o u =
+      let t : RangesTold (rangesSet (rangesIn (drop 2 w)) run) n y = rw (part-from 2 w) at o in
+      let is = withRanges (settingsIn w) run (rangesIn y) in
+      let now = ranges-set w v y (rangesIn y) (u .whole) in
+      ((t .0, settings-words-in is _ (u .sound) now ∙ ap (withRanges (settingsIn w) run) (t .1)), words-valid is _ now (record { numbers = v .sound .numbers; ranges = u .sound }))
 
 -- WHICH NUMBERS ARE SET
 module _ (s : Settings) (a : ℕ) where
@@ -125,13 +184,16 @@ module _ (s : Settings) (a : ℕ) where
     unfolding isSet
     second-set d = rw (ne-eqb a 0 n, ne-eqb a (s .sourceGroup) d)
 
-pub is-set-none : (a : ℕ) → isSet noneSet a ≡ false
+neither-set : (s : Settings) (a : ℕ) → s .sourceGroup ≡ 0 → s .anySource ≡ 0 → isSet s a ≡ false
 unfolding isSet
-is-set-none a = go (eqb a 0)
+neither-set s a x y = rw (x, y) (go (eqb a 0))
   where
     go : (t : Bool) → (not t && (t || t)) ≡ false
     go true = refl
     go false = refl
+
+pub is-set-none : (a : ℕ) → isSet noneSet a ≡ false
+is-set-none a = neither-set noneSet a refl refl
 
 either-of : (p q : Bool) → (p || q) ≡ true → (p ≡ true) ⊎ (q ≡ true)
 either-of true q h = inl refl
@@ -145,8 +207,11 @@ one-set s a h =
 
 -- a number that is set is one from 4 to 30
 pub is-set-bounds : (s : Settings) → SettingsRight s → (a : ℕ) → isSet s a ≡ true → (3 < a) × (a < 31)
-is-set-bounds s (inl e) a h = absurd (true-false h (ap (λ (t : Settings). isSet t a) e ∙ is-set-none a))
-is-set-bounds s (inr e) a h =
-    let p = may-be-set-parts (s .sourceGroup) (s .anySource) e in
-    let q = one-set s a h in
-    ⊎-elim (λ f. rw f (in-range-bounds (s .sourceGroup) (p .0))) (λ f. rw f (in-range-bounds (s .anySource) (p .1))) q
+is-set-bounds s r a h = go (r .numbers)
+  where
+    go : ((s .sourceGroup ≡ 0) × (s .anySource ≡ 0)) ⊎ (mayBeSet (s .sourceGroup) (s .anySource) ≡ true) → (3 < a) × (a < 31)
+    go (inl (x, y)) = absurd (true-false h (neither-set s a x y))
+    go (inr e) =
+        let p = may-be-set-parts (s .sourceGroup) (s .anySource) e in
+        let q = one-set s a h in
+        ⊎-elim (λ f. rw f (in-range-bounds (s .sourceGroup) (p .0))) (λ f. rw f (in-range-bounds (s .anySource) (p .1))) q

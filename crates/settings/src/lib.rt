@@ -1,16 +1,21 @@
-// What the operator sets upon a segment, in words that a caller lends: the algorithm numbers of the two election kinds by flow, for (S,G) and for (*,G); zeros where
-// none are set.
+// What the operator sets upon a segment, in words that a caller lends: the algorithm numbers of the two election kinds by flow, for (S,G) and for (*,G), and the ranges of
+// tags that name another algorithm; zeros where none are set.
 use refusals::ALGORITHM_NOT_USABLE;
 ghost use mathlib.Core.Path.{_≡_};
-ghost use Rattle.settings.specs.Settings.{noneSet, fromFourToThirty, mayBeSet, isSet, numbersSet, settingsIn, ValidSettings, SettingsTold};
+ghost use mathlib.Core.Bool.{false};
+ghost use Rattle.tags.specs.Tags.{reservedTag};
+ghost use Rattle.ranges.specs.Ranges.{algorithmIn};
+ghost use Rattle.settings.specs.Settings.{noneSet, fromFourToThirty, mayBeSet, isSet, anyRange, numbersSet, rangesGiven, settingsIn, ValidSettings, SettingsTold};
 
 // How many words the settings have.
-pub const WORDS: usize = 2;
+pub const WORDS: usize = 51;
 
-// Where the number for (S,G) and that for (*,G) lie.
+// Where the number for (S,G) and that for (*,G) lie, and where the ranges start.
 const SOURCE_GROUP: usize = 0;
 
 const ANY_SOURCE: usize = 1;
+
+const RANGES: usize = 2;
 
 // The least and the greatest number that may be set.
 const LEAST: u8 = 4;
@@ -62,6 +67,15 @@ pub fn set_numbers(s: &mut [u32], source_group: u8, any_source: u8) -> u8
     0
 }
 
+// Sets the ranges that a run of numbers names, three to a range: 20 for ranges that may not be set, and then the old ones are kept.
+pub fn set_ranges(s: &mut [u32], run: &[u32]) -> u8
+    requires { ⌜ ValidSettings (now s) ⌝ }
+    ensures answer { λ r. ⌜ SettingsTold (rangesGiven (settingsIn (now (s .entry))) (now (run .entry))) r (now (s .exit)) ⌝ }
+    ensures kept { λ _. ⌜ ValidSettings (now (s .exit)) ⌝ }
+{
+    ranges::set(&mut s[RANGES..], run)
+}
+
 // The number set for (S,G), or 0.
 pub fn source_group(s: &[u32]) -> u32
     requires { ⌜ ValidSettings (now s) ⌝ }
@@ -90,4 +104,20 @@ pub fn is_set(s: &[u32], algorithm: u32) -> bool
         return true;
     }
     algorithm == s[ANY_SOURCE]
+}
+
+// Whether any range is set.
+pub fn any_range(s: &[u32]) -> bool
+    requires { ⌜ ValidSettings (now s) ⌝ }
+    ensures { λ r. ⌜ r ≡ anyRange (settingsIn (now (s .entry))) ⌝ }
+{
+    ranges::any(&s[RANGES..])
+}
+
+// The algorithm for a tag, where one is in use: the one that the tag's range names, if it is in one.
+pub fn algorithm_for(s: &[u32], tag: u32, in_use: u8) -> u8
+    requires { ⌜ ValidSettings (now s) × (reservedTag tag ≡ false) ⌝ }
+    ensures { λ r. ⌜ r ≡ algorithmIn (settingsIn (now (s .entry)) .ranges) tag «in_use» ⌝ }
+{
+    ranges::algorithm_in(&s[RANGES..], tag, in_use)
 }

@@ -72,6 +72,9 @@ returns-2 c =
     (free j) (short start) refl _ (j .circuit-candidates .ensures) (c .before .if2 .taken) in
     rw (c .refusal2 .ensures) (e .0, (e .1, (e .2, (e .3, not-long start e))))
 
+plain-algorithm-requires : tie.Need-plain-algorithm-requires
+plain-algorithm-requires c κs = let j = c .before in (from j .pre .1, free j)
+
 place-by-tag-requires : tie.Need-place-by-tag-requires
 place-by-tag-requires c κs =
     let tested = c .before in
@@ -103,7 +106,7 @@ elect-by-circuits-spec =
     (λ c κs. search needs)
     (λ c κs. search needs)
     returns-2
-    (λ c κs. search needs)
+    plain-algorithm-requires
     place-by-tag-requires
     (λ c κs. search needs)
     returns-3)

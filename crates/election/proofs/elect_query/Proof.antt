@@ -97,6 +97,12 @@ returns-5 c q n g f =
     (free (right j .before .before)) (short (right j .before)) (g ∙ not-false _ (right j .if3 .left)) _ (j .candidate-set .ensures) _ (tested .if4 .left)
     _ _ n f (sym (agreed .agreed-on .ensures) ∙ placed .before .if5 .taken) (placed .place-by-flow .ensures) (c .named .ensures)
 
+plain-algorithm-requires : tie.Need-plain-algorithm-requires
+plain-algorithm-requires c κs =
+    let tested = c .before .before in
+    let j = tested .before in
+    (begun j .pre .1, free (right j .before .before))
+
 place-by-tag-requires : tie.Need-place-by-tag-requires
 place-by-tag-requires c κs =
     let tested = c .before .before .before in
@@ -135,7 +141,7 @@ elect-query-spec =
     place-by-flow-requires
     (λ c κs. search needs)
     returns-5
-    (λ c κs. search needs)
+    plain-algorithm-requires
     place-by-tag-requires
     (λ c κs. search needs)
     returns-6)

@@ -2,7 +2,7 @@
 use native.Mathlib.Omega.{arith}
 use borrow.Author.Needs.{needs}
 use Rattle.segment_state.proofs.Laws.{length-state, settings-part, valid-settings-part}
-use Rattle.flow_calls.proofs.Told.{numbers-told}
+use Rattle.demand3.proofs.Told.{numbers-told}
 use Rattle.flow_calls.proofs.set_flow_algorithms.Statement.{statement}
 use Rattle.flow_calls.proofs.set_flow_algorithms.Tie as tie
 
@@ -11,7 +11,7 @@ returns c =
     let start = c .before .before .before .before .before in
     let a = start .args in
     let told = c .before .before .set-numbers .ensures in
-    let r = numbers-told (a .s .now) (start .pre) (a .source-group) (a .any-source) _ _ (told .0) (told .1) in
+    let r = numbers-told (a .s .now) (start .pre) _ _ (told .1) (a .source-group) (a .any-source) (told .0) in
     (r .0, (r .1, (r .2, r .3)))
 
 pub set-flow-algorithms-spec : {M : Type 1} → statement M

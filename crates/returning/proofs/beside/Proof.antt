@@ -11,7 +11,7 @@ use Rattle.layout.specs.Table.{Entry}
 use Rattle.layout.specs.Words.{tableIn}
 use Rattle.places.specs.Places.{places}
 use Rattle.winner.specs.Winner.{entriesAt}
-use Rattle.returning.proofs.Laws.{none-at, some-at, own-clear, none-stands, other-algorithm, reference-clear, not-reached, reached}
+use Rattle.returning.proofs.Laws.{none-at, some-at, own-clear, none-stands, other-algorithm, beside-both, beside-one}
 use Rattle.returning.proofs.beside.Statement.{statement}
 use Rattle.returning.proofs.beside.Tie as tie
 
@@ -19,18 +19,18 @@ abbrev os : tie.Start → List Entry
 os s = entriesAt (tableIn (now (s .args .t)) .entries) (places (s .args .set))
 
 returns : tie.Need-returns
-returns c = let s = c .before .before in own-clear (os s) (s .args .algorithm) (s .args .preference) (s .args .dp) (not-true _ (c .if1 .taken))
+returns c = let s = c .before .before in own-clear (os s) (s .args .ranges) (s .args .algorithm) (s .args .preference) (s .args .dp) (not-true _ (c .if1 .taken))
 
 returns-2 : tie.Need-returns-2
 returns-2 c =
     let s = c .before .before .before in
-    none-stands (os s) (s .args .algorithm) (s .args .preference) (s .args .dp) (not-false _ (c .before .if1 .left)) (none-at (tableIn (now (s .args .t)) .entries) (s .args .set) (c .if2 .taken))
+    none-stands (os s) (s .args .ranges) (s .args .algorithm) (s .args .preference) (s .args .dp) (not-false _ (c .before .if1 .left)) (none-at (tableIn (now (s .args .t)) .entries) (s .args .set) (c .if2 .taken))
 
 returns-3 : tie.Need-returns-3
 returns-3 c =
     let first = c .before .before .before in
     let s = first .before .before in
-    other-algorithm (os s) (s .args .algorithm) (s .args .preference) (s .args .dp) (not-false _ (first .if1 .left)) (sym (c .before .all-under .ensures) ∙ not-true _ (c .if3 .taken))
+    other-algorithm (os s) (s .args .ranges) (s .args .algorithm) (s .args .preference) (s .args .dp) (not-false _ (first .if1 .left)) (sym (c .before .all-under .ensures) ∙ not-true _ (c .if3 .taken))
 
 some : (c : tie.Else2) → length (os (c .before .before .before)) ≡ 0 → ⊥
 some c =
@@ -39,34 +39,19 @@ some c =
 
 returns-4 : tie.Need-returns-4
 returns-4 c =
-    let known = c .before in
-    let best = known .before in
-    let agreed = best .before in
+    let agreed = c .before .before in
     let called = agreed .before in
     let tested = called .before in
     let s = tested .before .before .before in
-    reference-clear (os s) (s .args .algorithm) (s .args .preference) (s .args .dp) (not-false _ (tested .before .if1 .left)) (some tested) (sym (called .all-under .ensures) ∙ not-false _ (agreed .if3 .left)) _ (best .best .ensures .1) _ (known .standing-at .ensures .0) (c .if4 .taken)
+    c .beside-both .ensures ∙ beside-both (os s) (s .args .ranges) (s .args .algorithm) (s .args .preference) (s .args .dp) (not-false _ (tested .before .if1 .left)) (some tested) (sym (called .all-under .ensures) ∙ not-false _ (agreed .if3 .left)) (c .before .if4 .taken)
 
 returns-5 : tie.Need-returns-5
 returns-5 c =
-    let known = c .before .before .before in
-    let best = known .before in
-    let agreed = best .before in
+    let agreed = c .before .before in
     let called = agreed .before in
     let tested = called .before in
     let s = tested .before .before .before in
-    not-reached (os s) (s .args .algorithm) (s .args .preference) (s .args .dp) (not-false _ (tested .before .if1 .left)) (some tested) (sym (called .all-under .ensures) ∙ not-false _ (agreed .if3 .left)) _ (best .best .ensures .1) _ (known .standing-at .ensures .0) (sym (c .before .reach .ensures) ∙ not-true _ (c .if5 .taken))
-
-returns-6 : tie.Need-returns-6
-returns-6 c =
-    let clear = c .before .before in
-    let known = clear .before in
-    let best = known .before in
-    let agreed = best .before in
-    let called = agreed .before in
-    let tested = called .before in
-    let s = tested .before .before .before in
-    reached (os s) (s .args .algorithm) (s .args .preference) (s .args .dp) (not-false _ (tested .before .if1 .left)) (some tested) (sym (called .all-under .ensures) ∙ not-false _ (agreed .if3 .left)) _ (best .best .ensures .1) _ (known .standing-at .ensures .0) (clear .if4 .left) (sym (c .before .reach .ensures) ∙ not-false _ (c .if5 .left))
+    c .beside-reference .ensures ∙ beside-one (os s) (s .args .ranges) (s .args .algorithm) (s .args .preference) (s .args .dp) (not-false _ (tested .before .if1 .left)) (some tested) (sym (called .all-under .ensures) ∙ not-false _ (agreed .if3 .left)) (c .before .if4 .left)
 
 pub beside-spec : {M : Type 1} → statement M
 beside-spec =
@@ -77,9 +62,6 @@ beside-spec =
     (λ c κs. search needs)
     returns-3
     (λ c κs. search needs)
-    (λ c κs. search needs)
     returns-4
-    (λ c. search needs)
     (λ c κs. search needs)
-    returns-5
-    returns-6)
+    returns-5)
