@@ -5,13 +5,13 @@ use native.Mathlib.Nat.{suc-mul, zero-mul, add-zero}
 use native.Mathlib.Numerals.{add-one}
 use native.Mathlib.Omega.{arith}
 use mathlib.Core.Path.{_≡_, refl, ap, _∙_, sym, subst}
-use mathlib.Core.Bool.{Bool, true, false, cond, not, _&&_, _||_, and-false}
+use mathlib.Core.Bool.{Bool, true, false, not, _&&_, _||_, and-false}
 use mathlib.Core.List.{List, [], _∷_, _++_, append-nil}
 use mathlib.Core.Logic.{_⊎_, inl, inr, ⊎-elim}
 use lib.ListN.{length, getD, set, take, drop, replicate, length-drop, take-append-drop, drop-of-length-le}
 use lib.Seq.{paste, paste-suc, length-take-le, take-all, drop-cons, getD-take, getD-drop}
 use lib.Dec.{leb, eqb}
-use borrow.Author.Tests.{leb-true, eqb-true, le-leb, lt-leb, eq-eqb, ne-eqb}
+use borrow.Author.Tests.{leb-true, eqb-true, not-true, le-leb, lt-leb, eq-eqb, ne-eqb}
 use Rattle.refusals.specs.Refusals.{rangesWrong}
 use Rattle.lists.specs.Lists.{all, Every}
 use Rattle.lists.proofs.Bools.{by-test, cond-by}
@@ -23,7 +23,7 @@ use Rattle.tags.specs.Tags.{reservedTag}
 use Rattle.ranges.specs.Ranges.{firstTag, lastTag, namedBy, holdsTag, rangeRight, overlap, disjoint, rangesOf, mayBeRanges, rangesSet, algorithmIn, RangesRight, rangesWords, rangesIn, ValidRanges, RangesTold}
 
 -- TWO TESTS
-both : (p q : Bool) → (p && q) ≡ true → (p ≡ true) × (q ≡ true)
+pub both : (p q : Bool) → (p && q) ≡ true → (p ≡ true) × (q ≡ true)
 both true q h = (refl, h)
 both false q h = (h, cc)
 
@@ -59,7 +59,7 @@ module _ (k : ℕ) where
       ap (λ (x : List ℕ). take k w ++ x) (flat-rows n (drop k w) (omega (arith, suc-mul n k, h, length-drop k w))) ∙ take-append-drop k w
 
 -- zeros behind a run change no number of it, and none behind it
-getD-zeros : (w : List ℕ) (m i : ℕ) → getD (w ++ replicate m 0) i 0 ≡ getD w i 0
+pub getD-zeros : (w : List ℕ) (m i : ℕ) → getD (w ++ replicate m 0) i 0 ≡ getD w i 0
 getD-zeros [] zero i = refl
 getD-zeros [] (suc m) zero = refl
 getD-zeros [] (suc m) (suc i) = getD-zeros [] m i
@@ -290,49 +290,20 @@ module _ (b : List ℕ) (v : ValidRanges b) (w : List ℕ) where
   unfolding rangesSet
   told-set e d q = ((rw e, rw e (ranges-words-in (rangesOf w) d (may-right w e) q)), words-valid (rangesOf w) d (may-right w e) q)
 
--- THE RANGES IN WORDS: where the words of the range at a place lie
-in-words : (b : List ℕ) (i : ℕ) → i < length (rangesIn b)
-    → (firstTag (getD (rangesIn b) i []) ≡ getD b (i * 3 + 1) 0) × (lastTag (getD (rangesIn b) i []) ≡ getD b (i * 3 + 2) 0) × (namedBy (getD (rangesIn b) i []) ≡ getD b (i * 3 + 3) 0)
-unfolding rangesIn
-in-words [] i h = absurd (omega arith)
-in-words (n ∷ b) i h =
-    let k : i < n = omega (arith, rows-length 3 n b) in
-    let one : i * 3 + 1 ≡ suc (i * 3) = omega arith in
-    let two : i * 3 + 2 ≡ suc (i * 3 + 1) = omega arith in
-    let three : i * 3 + 3 ≡ suc (i * 3 + 2) = omega arith in (
-      first-word n b i k ∙ sym (ap (λ (p : ℕ). getD (n ∷ b) p 0) one),
-      last-word n b i k ∙ sym (ap (λ (p : ℕ). getD (n ∷ b) p 0) two),
-      named-word n b i k ∙ sym (ap (λ (p : ℕ). getD (n ∷ b) p 0) three),
-    )
-
-module _ (b : List ℕ) (i : ℕ) (h : i < length (rangesIn b)) where
-  pub first-in : firstTag (getD (rangesIn b) i []) ≡ getD b (i * 3 + 1) 0
-  first-in = in-words b i h .0
-
-  pub last-in : lastTag (getD (rangesIn b) i []) ≡ getD b (i * 3 + 2) 0
-  last-in = in-words b i h .1
-
-  pub named-in : namedBy (getD (rangesIn b) i []) ≡ getD b (i * 3 + 3) 0
-  named-in = in-words b i h .2
-
--- WHAT A RANGE NAMES
-right-named : (r : List ℕ) → rangeRight r ≡ true → (namedBy r ≡ 2) ⊎ (namedBy r ≡ 3)
+-- A RANGE THAT IS RIGHT: its last tag is not reserved, it does not run backwards, and it names 2 or 3
+pub right-parts : (r : List ℕ) → rangeRight r ≡ true → (reservedTag (lastTag r) ≡ false) × (firstTag r ≤ lastTag r) × ((namedBy r ≡ 2) ⊎ (namedBy r ≡ 3))
 unfolding rangeRight
-right-named r h =
+right-parts r h =
     let names = eqb (namedBy r) 2 || eqb (namedBy r) 3 in
     let forward = leb (firstTag r) (lastTag r) && names in
     let last = not (reservedTag (lastTag r)) && forward in
     let a = both (not (reservedTag (firstTag r))) last h in
     let b = both (not (reservedTag (lastTag r))) forward (a .1) in
-    let c = both (leb (firstTag r) (lastTag r)) names (b .1) in
-    ⊎-elim (λ p. inl (eqb-true (namedBy r) 2 p)) (λ q. inr (eqb-true (namedBy r) 3 q)) (either-of (eqb (namedBy r) 2) (eqb (namedBy r) 3) (c .1))
-
-pub named-least : (l : List (List ℕ)) (i : ℕ) → all rangeRight l ≡ true → i < length l → namedBy (getD l i []) ≤ 3
-unfolding all
-named-least [] i h n = absurd (omega arith)
-named-least (r ∷ l) zero h n =
-    ⊎-elim (λ p. omega (arith, p)) (λ q. omega (arith, q)) (right-named r (both (rangeRight r) (all rangeRight l) h .0))
-named-least (r ∷ l) (suc i) h n = named-least l i (both (rangeRight r) (all rangeRight l) h .1) (omega arith)
+    let c = both (leb (firstTag r) (lastTag r)) names (b .1) in (
+      not-true (reservedTag (lastTag r)) (b .0),
+      leb-true (firstTag r) (lastTag r) (c .0),
+      ⊎-elim (λ p. inl (eqb-true (namedBy r) 2 p)) (λ q. inr (eqb-true (namedBy r) 3 q)) (either-of (eqb (namedBy r) 2) (eqb (namedBy r) 3) (c .1)),
+    )
 
 -- THE ALGORITHM FOR A TAG
 pub algorithm-none : (tag a : ℕ) → algorithmIn [] tag a ≡ a
@@ -344,31 +315,7 @@ unfolding algorithmIn all
 named-or [] tag a h = inl refl
 named-or (r ∷ l) tag a h =
     let t = both (rangeRight r) (all rangeRight l) h in
-    cond-by (λ (x : ℕ). (x ≡ a) ⊎ ((x ≡ 2) ⊎ (x ≡ 3))) (holdsTag r tag) (λ _. inr (right-named r (t .0))) (λ _. named-or l tag a (t .1))
+    cond-by (λ (x : ℕ). (x ≡ a) ⊎ ((x ≡ 2) ⊎ (x ≡ 3))) (holdsTag r tag) (λ _. inr (right-parts r (t .0) .2)) (λ _. named-or l tag a (t .1))
 
 pub algorithm-named : (l : List (List ℕ)) (tag a : ℕ) → RangesRight l → (algorithmIn l tag a ≡ a) ⊎ ((algorithmIn l tag a ≡ 2) ⊎ (algorithmIn l tag a ≡ 3))
 algorithm-named l tag a r = named-or l tag a (r .right)
-
--- a walk over the ranges: the tag is in none before place i
-module _ (l : List (List ℕ)) (tag a i : ℕ) (q : algorithmIn (drop i l) tag a ≡ algorithmIn l tag a) where
-  module _ (h : i < length l) where
-    abbrev here : List ℕ
-    here = getD l i []
-
-    algorithm-step : algorithmIn (drop i l) tag a ≡ cond (leb (firstTag here) tag && leb tag (lastTag here)) (namedBy here) (algorithmIn (drop (i + 1) l) tag a)
-    unfolding algorithmIn holdsTag
-    algorithm-step = rw (add-one, drop-cons l i [] h)
-
-    pub tag-before : tag < firstTag here → algorithmIn (drop (i + 1) l) tag a ≡ algorithmIn l tag a
-    tag-before n = sym (algorithm-step ∙ rw (lt-leb (firstTag here) tag n)) ∙ q
-
-    module _ (f : firstTag here ≤ tag) where
-      pub tag-after : lastTag here < tag → algorithmIn (drop (i + 1) l) tag a ≡ algorithmIn l tag a
-      tag-after n = sym (algorithm-step ∙ rw (le-leb (firstTag here) tag f, lt-leb tag (lastTag here) n)) ∙ q
-
-      pub tag-within : tag ≤ lastTag here → namedBy here ≡ algorithmIn l tag a
-      tag-within n = sym (algorithm-step ∙ rw (le-leb (firstTag here) tag f, le-leb tag (lastTag here) n)) ∙ q
-
-  pub tag-nowhere : length l ≤ i → a ≡ algorithmIn l tag a
-  unfolding algorithmIn
-  tag-nowhere h = sym (ap (λ (m : List (List ℕ)). algorithmIn m tag a) (drop-of-length-le l {i = i} h)) ∙ q

@@ -8,7 +8,7 @@ ghost use Prim.Native.Nat.{_+_, _*_, _/_, _≤_, _<_};
 ghost use lib.Dec.{eqb};
 ghost use lib.ListN.{length, getD, drop};
 ghost use Rattle.lists.specs.Lists.{all};
-ghost use Rattle.ranges.specs.Ranges.{rangeRight, overlap, disjoint, rangesOf, mayBeRanges, rangesSet, algorithmIn, rangesWords, rangesIn, ValidRanges, RangesTold};
+ghost use Rattle.ranges.specs.Ranges.{rangeRight, overlap, disjoint, rangesOf, mayBeRanges, rangesSet, rangesWords, rangesIn, ValidRanges, RangesTold};
 
 // How many words the ranges have: their number, and three for each place.
 pub const WORDS: usize = 49;
@@ -157,23 +157,4 @@ pub fn any(b: &[u32]) -> bool
     ensures { λ r. ⌜ r ≡ not (eqb (length (rangesIn (now (b .entry)))) 0) ⌝ }
 {
     b[0] != 0
-}
-
-// The algorithm for a tag, where one is in use: the one that the tag's range names, if it is in one.
-pub fn algorithm_in(b: &[u32], tag: u32, in_use: u8) -> u8
-    requires { ⌜ ValidRanges (now b) ⌝ }
-    ensures { λ r. ⌜ r ≡ algorithmIn (rangesIn (now (b .entry))) tag «in_use» ⌝ }
-{
-    let n = b[0] as usize;
-    let mut i = 0;
-    while i < n {
-        let start = i * WIDTH;
-        if b[start + 1] <= tag {
-            if tag <= b[start + 2] {
-                return b[start + 3] as u8;
-            }
-        }
-        i += 1;
-    }
-    in_use
 }
