@@ -13,8 +13,8 @@ use Rattle.segment_state.specs.State.{Segment, freshSegment, segmentIn, ValidSe
 use Rattle.segment_state.proofs.Laws.{together}
 
 pub fresh-told : (i : List ℕ) (n : ℕ) (b : List ℕ) → Given i n b
-    → ((n ≡ freshTable i .number) × (segmentIn (b ++ replicate 51 0) ≡ freshSegment i)) × ValidSegment (b ++ replicate 51 0)
+    → ((n ≡ freshTable i .number) × (segmentIn (b ++ replicate 102 0) ≡ freshSegment i)) × ValidSegment (b ++ replicate 102 0)
 fresh-told i n b g =
     let t = table-told i n b g in
-    let w = together b (replicate 51 0) (t .1) (zeros-none .1) in
+    let w = together b (replicate 102 0) (t .1) (zeros-none .1) in
     ((t .0 .0, w .0 ∙ ap₂ (λ (x : Table) (y : Settings). record { table = x; settings = y }) (t .0 .2) (zeros-none .0)), w .1)

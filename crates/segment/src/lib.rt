@@ -1,5 +1,5 @@
 // What users link: the calls of one segment, those for multicast flows (`flow_calls`) and for ranges of tags (`range_calls`), and those of the table of its Ethernet A-D routes
-// (`circuit_calls`). The state of a segment is 446 words, its route table and what the operator has set, which the fresh call makes and the others are lent.
+// (`circuit_calls`). The state of a segment is 497 words, its route table and what the operator has set, which the fresh call makes and the others are lent.
 // The fresh call promises demand 3 of every list of calls; each call promises that it is one more call of the list.
 use address::Address;
 use answers::Answer;

@@ -7,8 +7,9 @@ use lib.ListN.{length, take, drop, length-drop}
 use lib.Seq.{take-append-seam, drop-append-seam}
 use Rattle.layout.specs.Words.{tableIn, Valid}
 use Rattle.layout.proofs.Words.{length-valid}
+use Rattle.tag_ranges.proofs.Laws.{part-from, none-behind}
 use Rattle.settings.specs.Settings.{settingsIn, ValidSettings}
-use Rattle.settings.proofs.Laws.{length-settings, part-from, none-behind}
+use Rattle.settings.proofs.Laws.{length-settings}
 use Rattle.segment_state.specs.State.{Segment, segmentIn, ValidSegment}
 
 -- A STATE PUT TOGETHER from the words of a table and those of settings
@@ -25,7 +26,7 @@ module _ (x y : List ℕ) (v : Valid x) (w : ValidSettings y) where
 
 -- A STATE TAKEN APART
 module _ (b : List ℕ) (v : ValidSegment b) where
-  pub length-state : length b ≡ 446
+  pub length-state : length b ≡ 497
   length-state = omega (arith, length-settings (drop 395 b) (v .settings), length-drop 395 b)
 
   -- the words after the table's, as they are lent

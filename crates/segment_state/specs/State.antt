@@ -1,4 +1,4 @@
--- The state of a segment: its route table (document 01, "The table") and what the operator has set upon it (document 02, M-106 and M-109), in 446 words that a caller lends:
+-- The state of a segment: its route table (document 01, "The table") and what the operator has set upon it (document 02, M-106 and M-109), in 497 words that a caller lends:
 -- the table's 395, and then those of the settings.
 --   Segment          == a route table and settings
 --   freshSegment i   == what the fresh call leaves for the identifier i: an empty table, and none set

@@ -2,7 +2,7 @@
 // `segment`.
 
 // How many words a state has.
-pub const WORDS: usize = 446;
+pub const WORDS: usize = 497;
 
 // Where the settings start: so many words are the table's.
 pub const SETTINGS: usize = 395;

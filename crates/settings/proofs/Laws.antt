@@ -3,32 +3,26 @@ use Prim.Native.Nat.{ℕ, suc, _-_, _≤_, _<_}
 use native.Mathlib.Omega.{arith}
 use mathlib.Core.Path.{_≡_, refl, ap, _∙_, sym, subst}
 use mathlib.Core.Bool.{Bool, true, false, not, _&&_, _||_}
-use mathlib.Core.List.{List, [], _∷_, _++_, append-nil}
+use mathlib.Core.List.{List, [], _∷_, _++_}
 use mathlib.Core.Logic.{_⊎_, inl, inr, ⊎-elim}
-use lib.ListN.{length, getD, set, take, drop, replicate, length-drop, drop-of-length-le}
-use lib.Seq.{take-all}
+use lib.ListN.{length, getD, set, take, drop, replicate}
 use lib.Dec.{ltb, leb, eqb}
 use borrow.Author.Tests.{ltb-true, eqb-true, le-leb, lt-leb, lt-ltb, le-ltb, eq-eqb, ne-eqb}
 use Rattle.refusals.specs.Refusals.{algorithmNotUsable}
 use Rattle.lists.proofs.Bools.{by-test, cond-by, true-false, not-eq}
 use Rattle.lists.proofs.Numbers.{either}
 use Rattle.rows.specs.Rows.{flat}
-use Rattle.ranges.specs.Ranges.{rangesSet, RangesRight, rangesWords, rangesIn, ValidRanges, RangesTold}
+use Rattle.ranges.specs.Ranges.{rangesSet, RangesRight}
 use Rattle.ranges.proofs.Laws as ranges
+use Rattle.tag_ranges.specs.TagRanges.{tagRangesWords, tagRangesIn, ValidTagRanges, TagRangesTold}
+use Rattle.tag_ranges.proofs.Laws as tagged
+use Rattle.tag_ranges.proofs.Laws.{part-from, none-behind}
 use Rattle.settings.specs.Settings.{Settings, noneSet, fromFourToThirty, mayBeSet, isSet, anyRange, numbersSet, rangesGiven, settingsWords, settingsIn, SettingsRight, ValidSettings, SettingsTold}
-
--- A PART of words, from a place on to the end, as it is lent, and written anew
-module _ (k : ℕ) (b : List ℕ) where
-  pub part-from : take (length b - k) (drop k b) ≡ drop k b
-  part-from = take-all (length b - k) (drop k b) (omega (arith, length-drop k b))
-
-  pub none-behind : (y : List ℕ) → y ++ drop (length b - k) (drop k b) ≡ y
-  none-behind y = ap (λ (l : List ℕ). y ++ l) (drop-of-length-le (drop k b) {i = length b - k} (omega (arith, length-drop k b))) ∙ append-nil y
 
 -- WORDS
 pub settings-words-in : (s : Settings) (b : List ℕ) → RangesRight (s .ranges) → b ≡ settingsWords s → settingsIn b ≡ s
 unfolding settingsWords settingsIn
-settings-words-in s b r e = rw (e, ranges.ranges-words-in (s .ranges) (rangesWords (s .ranges)) r refl)
+settings-words-in s b r e = rw (e, tagged.words-in (s .ranges) r (tagRangesWords (s .ranges)) refl)
 
 pub none-right : SettingsRight noneSet
 none-right = record { numbers = inl (refl, refl); ranges = ranges.none-ranges }
@@ -41,26 +35,26 @@ words-valid s b e r =
       whole = e ∙ ap settingsWords (sym i);
     }
 
-pub zeros-none : (settingsIn (replicate 51 0) ≡ noneSet) × ValidSettings (replicate 51 0)
+pub zeros-none : (settingsIn (replicate 102 0) ≡ noneSet) × ValidSettings (replicate 102 0)
 unfolding settingsWords
 zeros-none =
-    let e : replicate 51 0 ≡ settingsWords noneSet = ap (λ (l : List ℕ). 0 ∷ 0 ∷ l) (ranges.zeros-none .1 .whole ∙ ap rangesWords (ranges.zeros-none .0)) in
-    (settings-words-in noneSet (replicate 51 0) ranges.none-ranges e, words-valid noneSet (replicate 51 0) e none-right)
+    let e : replicate 102 0 ≡ settingsWords noneSet = ap (λ (l : List ℕ). 0 ∷ 0 ∷ l) (tagged.zeros-none .1 .whole ∙ ap tagRangesWords (tagged.zeros-none .0)) in
+    (settings-words-in noneSet (replicate 102 0) ranges.none-ranges e, words-valid noneSet (replicate 102 0) e none-right)
 
 -- their parts
 module _ (b : List ℕ) (v : ValidSettings b) where
-  parted : b ≡ getD b 0 0 ∷ getD b 1 0 ∷ rangesWords (rangesIn (drop 2 b))
+  parted : b ≡ getD b 0 0 ∷ getD b 1 0 ∷ tagRangesWords (tagRangesIn (drop 2 b))
   unfolding settingsWords settingsIn
   parted = v .whole
 
-  pub valid-ranges : ValidRanges (drop 2 b)
+  pub valid-ranges : ValidTagRanges (drop 2 b)
   unfolding settingsIn
-  valid-ranges = ranges.words-valid (rangesIn (drop 2 b)) (drop 2 b) (v .sound .ranges) (ap (drop 2) parted)
+  valid-ranges = tagged.words-valid (tagRangesIn (drop 2 b)) (v .sound .ranges) (drop 2 b) (ap (drop 2) parted)
 
-  pub length-settings : length b ≡ 51
-  length-settings = ap length parted ∙ ap (λ (n : ℕ). suc (suc n)) (ap length (sym (valid-ranges .whole)) ∙ ranges.length-ranges (drop 2 b) valid-ranges)
+  pub length-settings : length b ≡ 102
+  length-settings = ap length parted ∙ ap (λ (n : ℕ). suc (suc n)) (ap length (sym (valid-ranges .whole)) ∙ tagged.length-tag-ranges (drop 2 b) valid-ranges)
 
-  pub valid-ranges-part : ValidRanges (take (length b - 2) (drop 2 b))
+  pub valid-ranges-part : ValidTagRanges (take (length b - 2) (drop 2 b))
   valid-ranges-part = rw (part-from 2 b) valid-ranges
 
   -- both numbers written anew
@@ -69,7 +63,7 @@ module _ (b : List ℕ) (v : ValidSettings b) where
   words-set x y = ap (λ (l : List ℕ). set (set l 0 x) 1 y) parted
 
   -- and the ranges'
-  ranges-set : (y : List ℕ) (l : List (List ℕ)) → y ≡ rangesWords l
+  ranges-set : (y : List ℕ) (l : List (List ℕ)) → y ≡ tagRangesWords l
       → take 2 b ++ (y ++ drop (length b - 2) (drop 2 b)) ≡ settingsWords (record { sourceGroup = settingsIn b .sourceGroup; anySource = settingsIn b .anySource; ranges = l })
   unfolding settingsWords settingsIn
   ranges-set y l e = rw (none-behind 2 b y) (ap (λ (x : List ℕ). take 2 x ++ y) parted ∙ ap (λ (x : List ℕ). getD b 0 0 ∷ getD b 1 0 ∷ x) e)
@@ -160,13 +154,13 @@ module _ (w : List ℕ) (v : ValidSettings w) where
         let is = withNumbers (settingsIn w) a b in
         ((sym (told .0), settings-words-in is _ (v .sound .ranges) now ∙ sym (told .1)), words-valid is _ now (record { numbers = inr e; ranges = v .sound .ranges }))
 
-  pub ranges-told : (run : List ℕ) (n : ℕ) (y : List ℕ) → RangesTold (rangesSet (rangesIn (take (length w - 2) (drop 2 w))) run) n y → ValidRanges y
+  pub ranges-told : (run : List ℕ) (n : ℕ) (y : List ℕ) → TagRangesTold (rangesSet (tagRangesIn (take (length w - 2) (drop 2 w))) run) n y → ValidTagRanges y
       → SettingsTold (rangesGiven (settingsIn w) run) n (take 2 w ++ (y ++ drop (length w - 2) (drop 2 w))) × ValidSettings (take 2 w ++ (y ++ drop (length w - 2) (drop 2 w)))
   unfolding rangesGiven settingsIn
   ranges-told run n y o u =
-      let t : RangesTold (rangesSet (rangesIn (drop 2 w)) run) n y = rw (part-from 2 w) at o in
-      let is = withRanges (settingsIn w) run (rangesIn y) in
-      let now = ranges-set w v y (rangesIn y) (u .whole) in
+      let t : TagRangesTold (rangesSet (tagRangesIn (drop 2 w)) run) n y = rw (part-from 2 w) at o in
+      let is = withRanges (settingsIn w) run (tagRangesIn y) in
+      let now = ranges-set w v y (tagRangesIn y) (u .whole) in
       ((t .0, settings-words-in is _ (u .sound) now ∙ ap (withRanges (settingsIn w) run) (t .1)), words-valid is _ now (record { numbers = v .sound .numbers; ranges = u .sound }))
 
 -- WHICH NUMBERS ARE SET

@@ -1,5 +1,5 @@
 -- What the operator sets upon a segment, beside its routes: the algorithm numbers of the two election kinds by flow, that for (S,G) and that for (*,G) (document 02, M-106), and
--- the ranges of tags that name another algorithm (document 02, M-109). They lie in 51 words that a caller lends: the two numbers, and then those of the ranges.
+-- the ranges of tags that name another algorithm (document 02, M-109). They lie in 102 words that a caller lends: the two numbers, and then those of the ranges.
 --   Settings            == the two numbers, both 0 where none are set, and the ranges
 --   noneSet             == none are set, as at first
 --   mayBeSet a b        == whether a, for (S,G), and b, for (*,G), may be set: two different numbers from 4 to 30
@@ -22,7 +22,8 @@ use mathlib.Core.Logic.{_⊎_}
 use lib.ListN.{length, getD, drop}
 use lib.Dec.{ltb, eqb}
 use Rattle.refusals.specs.Refusals.{algorithmNotUsable}
-use Rattle.ranges.specs.Ranges.{rangesSet, RangesRight, rangesWords, rangesIn}
+use Rattle.ranges.specs.Ranges.{rangesSet, RangesRight}
+use Rattle.tag_ranges.specs.TagRanges.{tagRangesWords, tagRangesIn}
 
 pub record Settings : Type 0 where
   pub sourceGroup : ℕ
@@ -63,10 +64,10 @@ rangesGiven s w = record {
 
 -- WORDS
 unfoldable pub settingsWords : Settings → List ℕ
-settingsWords s = s .sourceGroup ∷ s .anySource ∷ rangesWords (s .ranges)
+settingsWords s = s .sourceGroup ∷ s .anySource ∷ tagRangesWords (s .ranges)
 
 unfoldable pub settingsIn : List ℕ → Settings
-settingsIn b = record { sourceGroup = getD b 0 0; anySource = getD b 1 0; ranges = rangesIn (drop 2 b) }
+settingsIn b = record { sourceGroup = getD b 0 0; anySource = getD b 1 0; ranges = tagRangesIn (drop 2 b) }
 
 abbrev pub NumbersRight : ℕ → ℕ → Type 0
 NumbersRight a b = ((a ≡ 0) × (b ≡ 0)) ⊎ (mayBeSet a b ≡ true)

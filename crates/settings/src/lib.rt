@@ -8,7 +8,7 @@ ghost use Rattle.ranges.specs.Ranges.{algorithmIn};
 ghost use Rattle.settings.specs.Settings.{noneSet, fromFourToThirty, mayBeSet, isSet, anyRange, numbersSet, rangesGiven, settingsIn, ValidSettings, SettingsTold};
 
 // How many words the settings have.
-pub const WORDS: usize = 51;
+pub const WORDS: usize = 102;
 
 // Where the number for (S,G) and that for (*,G) lie, and where the ranges start.
 const SOURCE_GROUP: usize = 0;
@@ -73,7 +73,7 @@ pub fn set_ranges(s: &mut [u32], run: &[u32]) -> u8
     ensures answer { λ r. ⌜ SettingsTold (rangesGiven (settingsIn (now (s .entry))) (now (run .entry))) r (now (s .exit)) ⌝ }
     ensures kept { λ _. ⌜ ValidSettings (now (s .exit)) ⌝ }
 {
-    ranges::set(&mut s[RANGES..], run)
+    tag_ranges::set(&mut s[RANGES..], run)
 }
 
 // The number set for (S,G), or 0.
@@ -111,7 +111,7 @@ pub fn any_range(s: &[u32]) -> bool
     requires { ⌜ ValidSettings (now s) ⌝ }
     ensures { λ r. ⌜ r ≡ anyRange (settingsIn (now (s .entry))) ⌝ }
 {
-    ranges::any(&s[RANGES..])
+    tag_ranges::any(&s[RANGES..])
 }
 
 // The algorithm for a tag, where one is in use: the one that the tag's range names, if it is in one.
@@ -119,5 +119,5 @@ pub fn algorithm_for(s: &[u32], tag: u32, in_use: u8) -> u8
     requires { ⌜ ValidSettings (now s) × (reservedTag tag ≡ false) ⌝ }
     ensures { λ r. ⌜ r ≡ algorithmIn (settingsIn (now (s .entry)) .ranges) tag «in_use» ⌝ }
 {
-    ranges::algorithm_in(&s[RANGES..], tag, in_use)
+    tag_ranges::algorithm_in(&s[RANGES..], tag, in_use)
 }

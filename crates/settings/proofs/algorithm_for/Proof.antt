@@ -1,8 +1,9 @@
 -- `algorithm_for` meets its contract: it is that of the ranges' part of the words. Assumes nothing.
 use native.Mathlib.Omega.{arith}
 use borrow.Author.Needs.{needs}
+use Rattle.tag_ranges.proofs.Laws.{part-from}
 use Rattle.settings.specs.Settings.{settingsIn}
-use Rattle.settings.proofs.Laws.{length-settings, part-from, valid-ranges-part}
+use Rattle.settings.proofs.Laws.{length-settings, valid-ranges-part}
 use Rattle.settings.proofs.algorithm_for.Statement.{statement}
 use Rattle.settings.proofs.algorithm_for.Tie as tie
 
@@ -17,5 +18,5 @@ algorithm-for-spec =
     (λ c. let s = c .before in omega (arith, length-settings (s .args .s .now) (s .pre .0)))
     (λ c. let s = c .before in omega (arith, length-settings (s .args .s .now) (s .pre .0)))
     (λ c. search needs)
-    (λ c κs. let s = c .before .before in valid-ranges-part (s .args .s .now) (s .pre .0))
+    (λ c κs. let s = c .before .before in (valid-ranges-part (s .args .s .now) (s .pre .0), s .pre .1))
     returns)

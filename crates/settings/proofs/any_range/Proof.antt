@@ -1,8 +1,9 @@
 -- `any_range` meets its contract: it is that of the ranges' part of the words. Assumes nothing.
 use native.Mathlib.Omega.{arith}
 use borrow.Author.Needs.{needs}
+use Rattle.tag_ranges.proofs.Laws.{part-from}
 use Rattle.settings.specs.Settings.{settingsIn, anyRange}
-use Rattle.settings.proofs.Laws.{length-settings, part-from, valid-ranges-part}
+use Rattle.settings.proofs.Laws.{length-settings, valid-ranges-part}
 use Rattle.settings.proofs.any_range.Statement.{statement}
 use Rattle.settings.proofs.any_range.Tie as tie
 
