@@ -42,7 +42,7 @@ module _ (s : Settings) (q : Query) (i : List ℕ) (l : List Entry) (tag : ℕ) 
   checked a b c = cond a (refusedAnswer 10) (cond b (refusedAnswer 11) (cond c answer (refusedAnswer 18)))
 
   -- none is named exactly if no candidate is eligible
-  none-named : NoneNamed s q l tag ready (electWith s q i l tag ready)
+  pub none-named : NoneNamed s q l tag ready (electWith s q i l tag ready)
   unfolding electWith
   none-named = go (reservedTag tag) refl (ltb 64 (length ready)) refl (rightLengths q) refl
     where
@@ -113,7 +113,7 @@ module _ (s : Settings) (q : Query) (t : Table) (w : WellFormed t) (tag : ℕ) (
   abbrev Names : Answer → Type 0
   Names r = r .number ≡ 0 → Forwarder (methodOf s q (t .esi) (t .entries) tag) (candidatesOf s (t .entries) ready) tag r
 
-  chosen : Names whole
+  pub chosen : Names whole
   chosen h =
       let e = passed s q (t .esi) (t .entries) tag ready h in
       subst (λ (r : Answer). Forwarder (methodOf s q (t .esi) (t .entries) tag) (candidatesOf s (t .entries) ready) tag r) (sym e)

@@ -4,6 +4,7 @@
 --   SameHeld i cs ds       == the lists of calls cs and ds, each from a fresh table of the identifier i, leave the same announcements held, and the same set
 --   Alone l r              == the answer r names exactly one of the entries l
 --   Nobody l r             == it names none of them
+--   Once s q tag ready r   == the answer r to the query q upon the state s names exactly one router where a candidate is eligible, and where none is, no router
 --   OneForwarder i cs ds   == the claim
 use Prim.Native.Nat.{ℕ, _≤_}
 use mathlib.Core.Path.{_≡_}
@@ -33,12 +34,11 @@ pub record Alone (l : List Entry) (r : Answer) : Type 0 where
 abbrev pub Nobody : List Entry → Answer → Type 0
 Nobody l r = (x : Entry) → List·Memᴰ x l → Names r (x .address) → ⊥
 
+-- where a candidate is eligible, for a tag, a list and a flow that may be asked for, exactly one router of the segment is named; where none is, no router is
+pub record Once (s : Segment) (q : Query) (tag : ℕ) (ready : List (List ℕ)) (r : Answer) : Type 0 where
+  pub one : reservedTag tag ≡ false → length ready ≤ 64 → rightLengths q ≡ true → (candidatesOf (s .settings) (s .table .entries) ready ≡ [] → ⊥) → Alone (s .table .entries) r
+  pub none : candidatesOf (s .settings) (s .table .entries) ready ≡ [] → Nobody (s .table .entries) r
+
 pub record OneForwarder (i : List ℕ) (cs ds : List Call) : Type 0 where
-  -- both give the same answer
   pub same : SameHeld i cs ds → (q : Query) (tag : ℕ) (ready : List (List ℕ)) → electIn (segmentAfter i cs) q tag ready ≡ electIn (segmentAfter i ds) q tag ready
-  -- where a candidate is eligible, for a tag, a list and a flow that may be asked for, exactly one router of the segment is named
-  pub one : (q : Query) (tag : ℕ) (ready : List (List ℕ)) → reservedTag tag ≡ false → length ready ≤ 64 → rightLengths q ≡ true
-      → (candidatesOf (segmentAfter i cs .settings) (segmentAfter i cs .table .entries) ready ≡ [] → ⊥) → Alone (segmentAfter i cs .table .entries) (electIn (segmentAfter i cs) q tag ready)
-  -- where none is, no router is
-  pub none : (q : Query) (tag : ℕ) (ready : List (List ℕ))
-      → candidatesOf (segmentAfter i cs .settings) (segmentAfter i cs .table .entries) ready ≡ [] → Nobody (segmentAfter i cs .table .entries) (electIn (segmentAfter i cs) q tag ready)
+  pub once : (q : Query) (tag : ℕ) (ready : List (List ℕ)) → Once (segmentAfter i cs) q tag ready (electIn (segmentAfter i cs) q tag ready)

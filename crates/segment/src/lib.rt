@@ -32,6 +32,7 @@ ghost use Rattle.election.specs.Queries.{plain, methodOf, candidatesOf, electWi
 ghost use Rattle.returning.specs.Returning.{returningOf, returningWith};
 ghost use Rattle.demand3.specs.Calls as calls;
 ghost use Rattle.demand3.specs.Demand3.{Demand3, Follows, segmentAfter};
+ghost use Rattle.one_forwarder.specs.OneForwarder.{Once, OneForwarder};
 ghost use Rattle.demand3.specs.Values.{starred, allRight};
 
 // A fresh segment: 0 or a refusal number, and the words of its state.
@@ -41,13 +42,14 @@ pub struct Made {
 }
 
 // A fresh segment for an identifier, with no route and none set. For a reserved identifier, or one that is not ten octets, 4 and the empty table of the all-zero one.
-// It is the state that the empty list of calls leaves. Whatever list of calls follows, demand 3 holds of it; and the definitions compute document
-// 01's starred values.
+// It is the state that the empty list of calls leaves. Whatever list of calls follows, demand 3 holds of it; two boxes that hold the same name the same router, exactly one; and the
+// definitions compute document 01's starred values.
 pub fn fresh(esi: &[u8]) -> Made
     ensures answer { λ r. ⌜ (r .number ≡ freshTable (now (esi .entry)) .number) × (segmentIn (r .state) ≡ freshSegment (now (esi .entry))) ⌝ }
     ensures kept { λ r. ⌜ ValidSegment (r .state) ⌝ }
     ensures starts { λ r. ⌜ segmentIn (r .state) ≡ segmentAfter (now (esi .entry)) [] ⌝ }
     ensures demand3 { λ r. ⌜ ((cs : List calls.Call) → Demand3 (now (esi .entry)) cs) ⌝ }
+    ensures one_forwarder { λ _. ⌜ ((cs ds : List calls.Call) → OneForwarder (now (esi .entry)) cs ds) ⌝ }
     ensures values { λ _. ⌜ allRight starred ≡ true ⌝ }
 {
     let mut words = [0u32; WORDS];
@@ -84,13 +86,15 @@ pub fn withdraw(s: &mut [u32], address: Address) -> u8
 }
 
 // Elects the Designated Forwarder for a tag: 10 for tag 0 or 4,294,967,295, 11 for a ready list over 64 rows of five words, 12 where no route is eligible.
-// An address that is named is that of a candidate; under algorithms 1 to 3 no candidate is better, and it is the only such. With none set the answer is document 01's.
+// An address that is named is that of a candidate; under algorithms 1 to 3 no candidate is better, and it is the only such. Exactly one router of the segment is named where a
+// candidate is eligible, and otherwise none. With none set the answer is document 01's.
 pub fn elect(s: &[u32], tag: u32, ready: &[u32]) -> Answer
     requires { ⌜ ValidSegment (now s) ⌝ }
     ensures answer { λ r. ⌜ r ≡ electWith (segmentIn (now (s .entry)) .settings) plain (segmentIn (now (s .entry)) .table .esi) (segmentIn (now (s .entry)) .table .entries) tag (readyIn (now (ready .entry))) ⌝ }
     ensures counted { λ r. ⌜ r .n ≡ ones (r .candidates) ⌝ }
     ensures none_named { λ r. ⌜ NoneNamed (segmentIn (now (s .entry)) .settings) plain (segmentIn (now (s .entry)) .table .entries) tag (readyIn (now (ready .entry))) r ⌝ }
     ensures forwarder { λ r. ⌜ (r .number ≡ 0 → Forwarder (methodOf (segmentIn (now (s .entry)) .settings) plain (segmentIn (now (s .entry)) .table .esi) (segmentIn (now (s .entry)) .table .entries) tag) (candidatesOf (segmentIn (now (s .entry)) .settings) (segmentIn (now (s .entry)) .table .entries) (readyIn (now (ready .entry)))) tag r) ⌝ }
+    ensures once { λ r. ⌜ Once (segmentIn (now (s .entry))) plain tag (readyIn (now (ready .entry))) r ⌝ }
     ensures none_set { λ r. ⌜ (segmentIn (now (s .entry)) .settings ≡ noneSet → r ≡ electOf (segmentIn (now (s .entry)) .table .esi) (segmentIn (now (s .entry)) .table .entries) tag (readyIn (now (ready .entry)))) ⌝ }
     ensures call { λ r. ⌜ calls.replyTo (segmentIn (now (s .entry))) (calls.elect plain tag (readyIn (now (ready .entry)))) ≡ calls.electReply r ⌝ }
     ensures follows { λ r. ⌜ Follows (segmentIn (now (s .entry))) (calls.elect plain tag (readyIn (now (ready .entry)))) (calls.electReply r) (segmentIn (now (s .entry))) ⌝ }

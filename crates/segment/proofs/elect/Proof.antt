@@ -11,6 +11,7 @@ use Rattle.segment_state.specs.State.{segmentIn}
 use Rattle.segment_state.proofs.Laws.{length-state, settings-part, valid-settings-part}
 use Rattle.election.specs.Queries.{plain, electWith}
 use Rattle.election.proofs.Laws.{elect-none}
+use Rattle.one_forwarder.proofs.OneForwarder.{once}
 use Rattle.demand3.proofs.Calls.{elect-replies}
 use Rattle.demand3.proofs.Demand3.{elect-follows}
 use Rattle.segment.proofs.elect.Statement.{statement}
@@ -25,7 +26,7 @@ returns c =
     let s = segmentIn (a .s .now) in
     let ready = readyIn (now (a .ready)) in
     let call = elect-replies s plain (a .tag) ready (told .0) in
-    (told .0, (told .1 .0, (told .1 .1 .0, (told .1 .1 .1, ((λ e. told .0 ∙ ap (λ (g : Settings). electWith g plain (s .table .esi) (s .table .entries) (a .tag) ready) e ∙ elect-none (s .table .esi) (s .table .entries) (a .tag) ready), (call, elect-follows s plain (a .tag) ready call))))))
+    (told .0, (told .1 .0, (told .1 .1 .0, (told .1 .1 .1, (once s (start .pre .table .sound) plain (a .tag) ready (told .0), ((λ e. told .0 ∙ ap (λ (g : Settings). electWith g plain (s .table .esi) (s .table .entries) (a .tag) ready) e ∙ elect-none (s .table .esi) (s .table .entries) (a .tag) ready), (call, elect-follows s plain (a .tag) ready call)))))))
 
 pub elect-spec : {M : Type 1} → statement M
 elect-spec =
