@@ -1,6 +1,8 @@
 //! Every side against the reference of tests/: the same random calls, the same answers, call by call. What the Ethernet A-D routes add is in
-//! `oracle/circuits.rs`, and what the elections by multicast flow add in `oracle/flows.rs`.
+//! `oracle/circuits.rs`, and what the elections by multicast flow add in `oracle/flows.rs`; `oracle/beside.rs` is what the latter compares by.
 
+#[path = "oracle/beside.rs"]
+mod beside;
 #[path = "oracle/circuits.rs"]
 mod circuits;
 #[path = "oracle/flows.rs"]
