@@ -1,5 +1,6 @@
 //! Every side against the reference of tests/: the same random calls, the same answers, call by call. What the Ethernet A-D routes add is in
-//! `oracle/circuits.rs`, and what the elections by multicast flow add in `oracle/flows.rs`; `oracle/beside.rs` is what the latter compares by.
+//! `oracle/circuits.rs`, what the elections by multicast flow add in `oracle/flows.rs`, and what ranges of tags add in `oracle/ranges.rs` with the runs of
+//! `oracle/range_runs.rs`. `oracle/beside.rs` is what the last two compare by.
 
 #[path = "oracle/beside.rs"]
 mod beside;
@@ -7,6 +8,10 @@ mod beside;
 mod circuits;
 #[path = "oracle/flows.rs"]
 mod flows;
+#[path = "oracle/range_runs.rs"]
+mod range_runs;
+#[path = "oracle/ranges.rs"]
+mod ranges;
 
 use benchmarks::answer::{Address, Answer, Family, Segment, Sent, Verdict};
 use benchmarks::random::Random;

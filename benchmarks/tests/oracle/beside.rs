@@ -228,12 +228,28 @@ impl<T: Segment + State> Beside<T> {
         assert_eq!(self.side_circuits.announce(route), number);
     }
 
+    /// No Ethernet A-D routes, on both.
+    pub fn fresh_circuits(&mut self) {
+        self.side_circuits.fresh();
+        self.circuits = ad_routes::Circuits::fresh();
+    }
+
+    /// How many Ethernet A-D routes there are.
+    pub fn circuits(&self) -> usize {
+        self.circuits.routes().len()
+    }
+
     /// The reference's whole answer.
     pub fn told(&self, query: &Query, tag: u32, ready: &[u32]) -> Answer {
+        self.told_of(&self.table, query, tag, ready)
+    }
+
+    /// The same of another table of the reference's.
+    pub fn told_of(&self, table: &Table, query: &Query, tag: u32, ready: &[u32]) -> Answer {
         whole(match query.flow() {
-            Some(flow) => rules::elect_rows(&self.table, flow, tag, ready),
-            None if matches!(query, Query::Plain) => election::elect_rows(&self.table, tag, ready),
-            None => ad_routes::elect(&self.table, &self.circuits, tag),
+            Some(flow) => rules::elect_rows(table, flow, tag, ready),
+            None if matches!(query, Query::Plain) => election::elect_rows(table, tag, ready),
+            None => ad_routes::elect(table, &self.circuits, tag),
         })
     }
 
