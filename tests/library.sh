@@ -2,7 +2,8 @@
 # Compares the calls of the library, as the crates `exports`, `circuit_exports`, `flow_exports` and `any_source_exports` hand them over, with the reference, call by call: library.sh
 # So the calls that no bench record makes are compared too: the returning router, ready lists over 64, with both families, with rows that are no address and
 # words that are no row, routes and lists of any length; the Ethernet A-D routes, with the whole state after each call, and the election over both tables; the
-# elections by multicast flow, with the whole state after each call, and the numbers set for them.
+# elections by multicast flow, with the whole state after each call, and the numbers set for them; the ranges of tags that override Highest or Lowest, with the
+# whole state after each call, and elections of every kind at their ends.
 # The baselines of benchmarks/ are held against the reference in the same way. Elections by flow are also compared with a computation in Python.
 set -euo pipefail
 cd "$(dirname "$0")/.."

@@ -1,12 +1,14 @@
 //! The calls that every side of a comparison has, and their answers. Document 01, "The table", "The election", "The returning router"; document 02,
-//! M-102 for the Ethernet A-D routes, M-103 for the place, M-105 for addresses of both families and M-106 for elections by multicast flow. The structs
-//! that are answered are laid out as in C, so that the proved calls can answer them.
+//! M-102 for the Ethernet A-D routes, M-103 for the place, M-105 for addresses of both families, M-106 for elections by multicast flow and M-109 for ranges
+//! of tags. The structs that are answered are laid out as in C, so that the proved calls can answer them.
 
 /// The words of a row of a ready list: the family, 4 or 6, then the words of an address. A row of another family is a stranger; words after the last
 /// whole row are no row.
 pub const ROW_WORDS: usize = 5;
 /// The words of a row of the table of Ethernet A-D routes: the kind, 1 per segment or 2 per instance; the tag, 0 per segment; the row of an address.
 pub const CIRCUIT_WORDS: usize = 7;
+/// The words of a range of tags as it is handed in: its first tag, its last tag, and 2 for Highest or 3 for Lowest.
+pub const RANGE_WORDS: usize = 3;
 
 #[derive(Clone, Copy, Debug, PartialEq, Eq)]
 pub enum Family {
@@ -148,7 +150,7 @@ pub trait Segment {
     /// The empty table of the all-zero identifier.
     fn empty() -> Self;
 
-    /// Makes this the fresh table of an identifier, with no algorithm numbers set. For a reserved one: 4, and the empty table of the all-zero one.
+    /// Makes this the fresh table of an identifier, with no algorithm numbers and no ranges set. For a reserved one: 4, and the empty table of the all-zero one.
     fn fresh(&mut self, esi: &[u8]) -> u8;
 
     fn announce(&mut self, route: &[u8], communities: &[u8]) -> Verdict;
@@ -157,6 +159,9 @@ pub trait Segment {
 
     /// Sets the algorithm numbers of the elections by flow, for (S,G) and for (*,G).
     fn set_flow_algorithms(&mut self, source_group: u8, any_source: u8) -> u8;
+
+    /// Sets the ranges of tags in place of all old ones. They are a run of words, `RANGE_WORDS` a range.
+    fn set_ranges(&mut self, run: &[u32]) -> u8;
 
     /// The ready list is a run of rows of words.
     fn elect(&self, tag: u32, ready: &[u32]) -> Answer;

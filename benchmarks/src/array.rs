@@ -3,14 +3,17 @@
 //! a loop over them takes several routes at once. Unused addresses are all ones, so that halvings may go past the end. A lookup halves its range without
 //! a branch, as often as the number of routes asks for, and compares at most seven entries of 64 (document 02, M-104). An address of the ready list is
 //! first looked for behind the one of its family before it, which is one of the seven. Shifts are block moves. Loops over the routes are without
-//! branches, for the compiler to vectorize. Nothing that an election derives is kept between calls. The Ethernet A-D routes are in `circuits`.
+//! branches, for the compiler to vectorize. Nothing that an election derives is kept between calls. The Ethernet A-D routes are in `circuits`, and
+//! the ranges of tags in `ranges`.
 
 mod circuits;
+mod ranges;
 
 pub use circuits::Circuits;
 
 use crate::answer::{Address, Answer, Segment, Sent, Verdict, ROW_WORDS};
 use crate::octets::{self, Election, Flow, FlowAlgorithms, Number, MAX_ROUTES};
+use ranges::Ranges;
 
 const LAST: usize = MAX_ROUTES - 1;
 /// So many items and fewer are moved one by one, more as a block.
@@ -22,6 +25,7 @@ pub struct Table {
     v6: Column<u128>,
     attributes: [u32; MAX_ROUTES],
     flow_algorithms: FlowAlgorithms,
+    ranges: Ranges,
 }
 
 /// The addresses of one family as rising numbers.
@@ -313,11 +317,12 @@ impl Table {
         fours.len() + place
     }
 
-    /// The algorithm and the AC-DF bit in use by the election of a flow, or of none.
+    /// The algorithm and the AC-DF bit in use by the election of a flow, or of none, for a tag that is not reserved.
     #[inline(always)]
-    fn in_use(&self, flow: Flow) -> (u8, bool) {
+    fn in_use(&self, tag: u32, flow: Flow) -> (u8, bool) {
         let (algorithm, ac_df) = carried(self.live());
         match self.flow_algorithms.in_use(algorithm, flow) {
+            Some(algorithm @ (2 | 3)) => (self.ranges.overriding(algorithm, tag), ac_df),
             Some(algorithm) => (algorithm, ac_df),
             None => (0, false),
         }
@@ -327,7 +332,7 @@ impl Table {
     #[inline(always)]
     fn elected<R: FnOnce() -> u64>(&self, tag: u32, flow: Flow, ready_set: R) -> Answer {
         let attributes = self.live();
-        let (algorithm, ac_df) = self.in_use(flow);
+        let (algorithm, ac_df) = self.in_use(tag, flow);
         let set = if ac_df {
             ready_set()
         } else {
@@ -354,6 +359,97 @@ impl Table {
             n,
             candidates: set,
         }
+    }
+
+    /// What a returning router sends. `beside` says it where the checks of document 01 come to the reference: it is handed the set of the other places, which
+    /// is not empty, and the own pair.
+    #[inline(always)]
+    fn sent(
+        &self,
+        address: Address,
+        algorithm: u8,
+        (preference, dp): (u16, bool),
+        beside: impl FnOnce(u64, Sent) -> Sent,
+    ) -> Sent {
+        if algorithm != 2 && algorithm != 3 {
+            return Sent::refused(15);
+        }
+        let number = Number::of(address);
+        if number.is_zero() {
+            return Sent::refused(6);
+        }
+        let own = Sent {
+            number: 0,
+            preference,
+            dp,
+        };
+        let attributes = self.live();
+        let mut others = all_places(attributes.len());
+        let (mut before, mut after) = (attributes, &[][..]);
+        if let Some(place) = self.place(number) {
+            others &= !(1 << place);
+            (before, after) = (&attributes[..place], &attributes[place + 1..]);
+        }
+        if !dp || others == 0 || differ(before, algorithm) || differ(after, algorithm) {
+            return own;
+        }
+        beside(others, own)
+    }
+
+    /// The pair sent beside the reference by algorithm 2 or 3, the best of the other places.
+    #[inline(always)]
+    fn beside_one(&self, others: u64, algorithm: u8, own: Sent) -> Sent {
+        let attributes = self.live();
+        let full = others == all_places(attributes.len());
+        let place = if algorithm == 2 {
+            best_narrow(attributes, others, full, higher)
+        } else {
+            best_narrow(attributes, others, full, lower)
+        };
+        let reference = preference_in(attributes[place]);
+        let reached = if algorithm == 2 {
+            own.preference >= reference
+        } else {
+            own.preference <= reference
+        };
+        if attributes[place] & DP == 0 || !reached {
+            return own;
+        }
+        Sent {
+            number: 0,
+            preference: reference,
+            dp: false,
+        }
+    }
+
+    /// The same beside both, first the highest and then the lowest.
+    #[inline(always)]
+    fn beside_both(&self, others: u64, own: Sent) -> Sent {
+        let attributes = self.live();
+        let full = others == all_places(attributes.len());
+        let highest = attributes[best(attributes, others, full, higher).0];
+        let lowest = attributes[best(attributes, others, full, lower).0];
+        let reference = if highest & DP != 0 && own.preference >= preference_in(highest) {
+            highest
+        } else if lowest & DP != 0 && own.preference <= preference_in(lowest) {
+            lowest
+        } else {
+            return own;
+        };
+        Sent {
+            number: 0,
+            preference: preference_in(reference),
+            dp: false,
+        }
+    }
+
+    /// What a returning router sends where ranges are set. Out of line, so that the call saves no registers for it where none are.
+    #[cold]
+    #[inline(never)]
+    fn sent_with_ranges(&self, address: Address, algorithm: u8, pair: (u16, bool)) -> Sent {
+        self.sent(address, algorithm, pair, |others, own| {
+            self.beside_both(others, own)
+        })
     }
 
     /// The address at a place among all routes.
@@ -457,6 +553,7 @@ impl Segment for Table {
             v6: Column::EMPTY,
             attributes: [0; MAX_ROUTES],
             flow_algorithms: FlowAlgorithms::default(),
+            ranges: Ranges::NONE,
         }
     }
 
@@ -467,6 +564,7 @@ impl Segment for Table {
         self.v6 = Column::EMPTY;
         self.attributes = [0; MAX_ROUTES];
         self.flow_algorithms = FlowAlgorithms::default();
+        self.ranges = Ranges::NONE;
         if octets::is_reserved(esi) {
             return 4;
         }
@@ -516,6 +614,11 @@ impl Segment for Table {
     }
 
     #[inline]
+    fn set_ranges(&mut self, run: &[u32]) -> u8 {
+        self.ranges.set(run)
+    }
+
+    #[inline]
     fn elect(&self, tag: u32, ready: &[u32]) -> Answer {
         if let Err(refused) = octets::check_election(tag, ready) {
             return Answer::refused(refused);
@@ -561,48 +664,12 @@ impl Segment for Table {
 
     #[inline]
     fn returning(&self, address: Address, algorithm: u8, preference: u16, dp: bool) -> Sent {
-        if algorithm != 2 && algorithm != 3 {
-            return Sent::refused(15);
+        if !self.ranges.is_empty() {
+            return self.sent_with_ranges(address, algorithm, (preference, dp));
         }
-        let number = Number::of(address);
-        if number.is_zero() {
-            return Sent::refused(6);
-        }
-        let own = Sent {
-            number: 0,
-            preference,
-            dp,
-        };
-        let attributes = self.live();
-        let mut others = all_places(attributes.len());
-        let (mut before, mut after) = (attributes, &[][..]);
-        if let Some(place) = self.place(number) {
-            others &= !(1 << place);
-            (before, after) = (&attributes[..place], &attributes[place + 1..]);
-        }
-        if !dp || others == 0 || differ(before, algorithm) || differ(after, algorithm) {
-            return own;
-        }
-        let full = others == all_places(attributes.len());
-        let place = if algorithm == 2 {
-            best_narrow(attributes, others, full, higher)
-        } else {
-            best_narrow(attributes, others, full, lower)
-        };
-        let reference = preference_in(attributes[place]);
-        let reached = if algorithm == 2 {
-            preference >= reference
-        } else {
-            preference <= reference
-        };
-        if attributes[place] & DP == 0 || !reached {
-            return own;
-        }
-        Sent {
-            number: 0,
-            preference: reference,
-            dp: false,
-        }
+        self.sent(address, algorithm, (preference, dp), |others, own| {
+            self.beside_one(others, algorithm, own)
+        })
     }
 
     #[inline]

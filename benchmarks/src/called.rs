@@ -32,6 +32,11 @@ impl<T: Segment> Segment for Called<T> {
     }
 
     #[inline(never)]
+    fn set_ranges(&mut self, run: &[u32]) -> u8 {
+        self.0.set_ranges(run)
+    }
+
+    #[inline(never)]
     fn elect(&self, tag: u32, ready: &[u32]) -> Answer {
         self.0.elect(tag, ready)
     }

@@ -1,16 +1,18 @@
 //! Baseline (b): a plain doubly linked list of heap nodes in rising address order, as routing daemons keep their routes today. A lookup walks from
 //! the head; a new route allocates a node and a withdrawal frees one; an election is one walk over all nodes, and with AC-DF each node's address is
-//! looked for along the ready list; under algorithm 0 a second walk goes to the one elected. The Ethernet A-D routes are in `circuits`, and the list
-//! itself in `chain`.
+//! looked for along the ready list; under algorithm 0 a second walk goes to the one elected. The Ethernet A-D routes are in `circuits`, the ranges of
+//! tags in `ranges`, and the list itself in `chain`.
 
 mod chain;
 mod circuits;
+mod ranges;
 
 pub use circuits::Circuits;
 
 use crate::answer::{Address, Answer, Segment, Sent, Verdict, ROW_WORDS};
 use crate::octets::{self, Election, Flow, FlowAlgorithms, Number, MAX_ROUTES};
 use chain::{Chain, Node};
+use ranges::Ranges;
 use std::ptr;
 
 /// An address is two numbers, so that a walk compares one for each node: an IPv6 address has above all IPv4 ones in `v4`, and an IPv4 address zero in
@@ -62,6 +64,7 @@ pub struct List {
     esi: [u8; 10],
     routes: Chain<Route>,
     flow_algorithms: FlowAlgorithms,
+    ranges: Ranges,
 }
 
 impl List {
@@ -141,6 +144,10 @@ impl List {
         let Some(algorithm) = self.flow_algorithms.in_use(first.algorithm, flow) else {
             return self.by_modulus(tag, self.routes.count() as u32, self.all());
         };
+        let algorithm = match algorithm {
+            2 | 3 if !self.ranges.is_empty() => self.ranges.overriding(algorithm, tag),
+            _ => algorithm,
+        };
         let is_ready = first.ac_df.then(ready);
         let mut best: Option<&Route> = None;
         let (agreed, candidates) = match algorithm {
@@ -166,6 +173,43 @@ impl List {
             Some(route) => answer(route, algorithm, n, candidates),
             None => self.by_modulus(tag, n, candidates),
         }
+    }
+
+    /// What a returning router of an address sends beside the reference, the highest or the lowest of the other routes, if that fits. One walk; a route
+    /// that carries another algorithm ends it, and then none fits.
+    #[inline]
+    fn inherited(
+        &self,
+        address: Number,
+        algorithm: u8,
+        lowest: bool,
+        preference: u16,
+    ) -> Option<Sent> {
+        let mut best: Option<&Election> = None;
+        for route in self.routes.items() {
+            if route.key.is(address) {
+                continue;
+            }
+            if route.election.algorithm != algorithm {
+                return None;
+            }
+            if best.is_none_or(|top| preferred(lowest, &route.election, top)) {
+                best = Some(&route.election);
+            }
+        }
+        let reached = |reference: &&Election| {
+            if lowest {
+                preference <= reference.preference
+            } else {
+                preference >= reference.preference
+            }
+        };
+        let fitting = best.filter(|reference| reference.dp).filter(reached)?;
+        Some(Sent {
+            number: 0,
+            preference: fitting.preference,
+            dp: false,
+        })
     }
 
     /// The set of all places of a list that is not empty.
@@ -255,6 +299,7 @@ impl Segment for List {
             esi: [0; 10],
             routes: Chain::new(),
             flow_algorithms: FlowAlgorithms::default(),
+            ranges: Ranges::none(),
         }
     }
 
@@ -313,6 +358,11 @@ impl Segment for List {
     #[inline]
     fn set_flow_algorithms(&mut self, source_group: u8, any_source: u8) -> u8 {
         self.flow_algorithms.set(source_group, any_source)
+    }
+
+    #[inline]
+    fn set_ranges(&mut self, run: &[u32]) -> u8 {
+        self.ranges.set(run)
     }
 
     #[inline]
@@ -376,35 +426,14 @@ impl Segment for List {
         if !dp {
             return own;
         }
-        let lowest = algorithm == 3;
-        let mut best: Option<&Election> = None;
-        for route in self.routes.items() {
-            if route.key.is(address) {
-                continue;
-            }
-            if route.election.algorithm != algorithm {
-                return own;
-            }
-            if best.is_none_or(|top| preferred(lowest, &route.election, top)) {
-                best = Some(&route.election);
-            }
-        }
-        let Some(reference) = best else {
-            return own;
-        };
-        let reached = if lowest {
-            preference <= reference.preference
+        let beside = |lowest| self.inherited(address, algorithm, lowest, preference);
+        let inherited = if self.ranges.is_empty() {
+            beside(algorithm == 3)
         } else {
-            preference >= reference.preference
+            // one walk to each reference
+            beside(false).or_else(|| beside(true))
         };
-        if !reference.dp || !reached {
-            return own;
-        }
-        Sent {
-            number: 0,
-            preference: reference.preference,
-            dp: false,
-        }
+        inherited.unwrap_or(own)
     }
 
     #[inline]

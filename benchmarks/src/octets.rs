@@ -1,12 +1,13 @@
 //! What both baselines read from octets and words in the same way: addresses, the route's checks, the list of communities, the checks of an election, the
-//! algorithm numbers of the elections by flow, the digests and the weight.
+//! algorithm numbers of the elections by flow, a range of tags, the digests and the weight.
 //! The CRC goes octet by octet through a static table of 256 entries, in both baselines.
 
-use crate::answer::{Address, Circuit, Family, Verdict, CIRCUIT_WORDS, ROW_WORDS};
+use crate::answer::{Address, Circuit, Family, Verdict, CIRCUIT_WORDS, RANGE_WORDS, ROW_WORDS};
 
 pub const MAX_ROUTES: usize = 64;
 pub const MAX_READY: usize = 64;
 pub const MAX_CIRCUITS: usize = 256;
+pub const MAX_RANGES: usize = 16;
 /// From so many words on a ready list has more rows than it may.
 const TOO_MANY_READY: usize = (MAX_READY + 1) * ROW_WORDS;
 
@@ -132,6 +133,38 @@ impl Flow<'_> {
         let crc = crc_fours(crc_fours(u32::MAX, self.source), self.group);
         digest_after(crc, tag, esi)
     }
+}
+
+/// The tags from the first to the last, and the algorithm that they get where 2 or 3 is in use.
+#[derive(Clone, Copy, Debug, Default, PartialEq, Eq)]
+pub struct TagRange {
+    pub first: u32,
+    pub last: u32,
+    pub algorithm: u8,
+}
+
+/// The rows of a run of ranges of tags. Words that are no whole number of rows, or more than 16 rows, 20.
+#[inline]
+pub fn range_rows(run: &[u32]) -> Result<&[[u32; RANGE_WORDS]], u8> {
+    let (rows, rest) = run.as_chunks();
+    if !rest.is_empty() || rows.len() > MAX_RANGES {
+        return Err(20);
+    }
+    Ok(rows)
+}
+
+/// The range of a row. One that runs backwards, has a reserved tag or names neither 2 nor 3, 20.
+#[inline]
+pub fn check_range(row: &[u32; RANGE_WORDS]) -> Result<TagRange, u8> {
+    let [first, last, algorithm] = *row;
+    if first == 0 || first > last || last == u32::MAX || !matches!(algorithm, 2 | 3) {
+        return Err(20);
+    }
+    Ok(TagRange {
+        first,
+        last,
+        algorithm: algorithm as u8,
+    })
 }
 
 /// The checks of every election: a reserved tag, 10; a ready list over 64, 11.

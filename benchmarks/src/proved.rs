@@ -5,8 +5,8 @@ use crate::answer::{
 };
 
 /// 64 rows of five words, the family and the address; 64 words of attributes; the count; the ten octets of the identifier. Then the algorithm numbers set
-/// for (S,G) and for (*,G), or zeros.
-pub const WORDS: usize = 395 + 2;
+/// for (S,G) and for (*,G), or zeros. Then the ranges of tags: how many there are, and 16 rows of three words, the first tag, the last and 2 or 3.
+pub const WORDS: usize = 395 + 2 + 49;
 
 /// The words of a segment, its table and its settings. Only the calls below write them, so they are always those of a segment that the calls made: their premise.
 pub struct Table([u32; WORDS]);
@@ -42,6 +42,7 @@ extern "C" {
         source_group: u8,
         any_source: u8,
     ) -> u8;
+    fn segment_set_ranges(s: *mut u32, s_length: usize, run: *const u32, run_length: usize) -> u8;
     fn segment_elect(
         t: *const u32,
         t_length: usize,
@@ -156,6 +157,11 @@ impl Segment for Table {
     fn set_flow_algorithms(&mut self, source_group: u8, any_source: u8) -> u8 {
         let s = self.0.as_mut_ptr();
         unsafe { segment_set_flow_algorithms(s, WORDS, source_group, any_source) }
+    }
+
+    #[inline]
+    fn set_ranges(&mut self, run: &[u32]) -> u8 {
+        unsafe { segment_set_ranges(self.0.as_mut_ptr(), WORDS, run.as_ptr(), run.len()) }
     }
 
     #[inline]

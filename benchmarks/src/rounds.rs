@@ -23,6 +23,13 @@ pub enum Work {
     },
     /// A round: the election for the next tag, from 1 on. The ready list is rows of words.
     Elect { runs: Vec<Run>, ready: Vec<u32> },
+    /// A round: the election for the one tag, with ranges of tags set that a run of words says, or none.
+    ElectWithRanges {
+        runs: Vec<Run>,
+        ranges: Vec<u32>,
+        tag: u32,
+        ready: Vec<u32>,
+    },
     /// A round: the election for the next tag, from 1 on, and the next of the flows, each (S,G).
     ElectSourceGroup {
         runs: Vec<Run>,
@@ -140,6 +147,18 @@ pub fn rounds<T: Segment>(work: &Work, rounds: u32, hearer: &mut impl Hearer) {
             let table: T = loaded(runs);
             for tag in 1..=rounds {
                 hearer.hear(table.elect(black_box(tag), black_box(ready)));
+            }
+        }
+        Work::ElectWithRanges {
+            runs,
+            ranges,
+            tag,
+            ready,
+        } => {
+            let mut table: T = loaded(runs);
+            hearer.hear(table.set_ranges(ranges));
+            for _ in 0..rounds {
+                hearer.hear(table.elect(*black_box(tag), black_box(ready)));
             }
         }
         Work::ElectSourceGroup { runs, flows, ready } => {

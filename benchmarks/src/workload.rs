@@ -1,4 +1,4 @@
-//! Routes, communities, ready lists and multicast flows, the same in every run. IPv4 addresses are 10.x.y.z and IPv6 ones 2001:db8::x:y, scattered in the
+//! Routes, communities, ready lists, multicast flows and ranges of tags, the same in every run. IPv4 addresses are 10.x.y.z and IPv6 ones 2001:db8::x:y, scattered in the
 //! low 24 bits and handed over in no order.
 
 use crate::answer::{Address, Circuit, Family};
@@ -123,6 +123,22 @@ pub fn circuits(addresses: &[Address], tags: &[u32]) -> Vec<Circuit> {
     let segments = addresses.iter().copied().map(Circuit::per_segment);
     segments.chain(tags.iter().flat_map(of_tag)).collect()
 }
+
+/// 16 ranges of 50 tags each, 50 apart: 1 to 50, 101 to 150 and so on, in rising order. They say an algorithm, 2 or 3, and the other one in turn.
+pub fn ranges(algorithm: u8) -> Vec<u32> {
+    let says = |at: u32| match at % 2 {
+        0 => algorithm,
+        _ => 5 - algorithm,
+    };
+    let range = |at: u32| [100 * at + 1, 100 * at + 50, says(at).into()];
+    (0..16).flat_map(range).collect()
+}
+
+/// Tags at the middle of these ranges, from above as from below: of the one before it, which says the other algorithm; of the one behind it, which says the
+/// algorithm itself; between the two.
+pub const TAG_OF_THE_OTHER: u32 = 725;
+pub const TAG_OF_THE_SAME: u32 = 825;
+pub const TAG_OF_NONE: u32 = 775;
 
 /// Flows from sources below 10.0.0.0/8 or 2001:db8::/104 to groups below 232.0.0.0/8 or ff3e::/104.
 pub fn flows(n: usize, family: Family, random: &mut Random) -> Vec<Flow> {

@@ -1,10 +1,17 @@
 //! Every side against the reference of tests/: the same random calls, the same answers, call by call. What the Ethernet A-D routes add is in
-//! `oracle/circuits.rs`, and what the elections by multicast flow add in `oracle/flows.rs`.
+//! `oracle/circuits.rs`, what the elections by multicast flow add in `oracle/flows.rs`, and what ranges of tags add in `oracle/ranges.rs` with the runs of
+//! `oracle/range_runs.rs`. `oracle/beside.rs` is what the last two compare by.
 
+#[path = "oracle/beside.rs"]
+mod beside;
 #[path = "oracle/circuits.rs"]
 mod circuits;
 #[path = "oracle/flows.rs"]
 mod flows;
+#[path = "oracle/range_runs.rs"]
+mod range_runs;
+#[path = "oracle/ranges.rs"]
+mod ranges;
 
 use benchmarks::answer::{Address, Answer, Family, Segment, Sent, Verdict};
 use benchmarks::random::Random;

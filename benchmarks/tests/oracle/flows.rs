@@ -1,224 +1,17 @@
 //! Elections by multicast flow and the algorithm numbers set for them (document 02, M-106), among all other calls of a segment. After each call its answer is
-//! compared and what a side lets one see of its state: the proved side all its words, the baselines what elections of every kind answer.
+//! compared and what a side lets one see of its state, as in `beside`: the proved side all its words, the baselines what elections of every kind answer.
 
-use crate::{addresses, ours, returning, theirs, whole, words};
-use benchmarks::answer::{Address, Answer, Circuit, Circuits, Segment, Verdict};
+use crate::addresses;
+use crate::beside::{numbers, Beside, Query, Returning, State, ROW};
+use benchmarks::answer::{Address, Answer, Segment};
 use benchmarks::random::Random;
 use benchmarks::{array, list, proved, workload};
-use reference::circuits as ad_routes;
 use reference::election;
-use reference::flows as rules;
-use reference::refusal::answer_number;
 use reference::table::Table;
 
 const SEEDS: u64 = 500;
 const CALLS: usize = 600;
-/// Words of a row of an address, rows of a table.
-const ROW: usize = 5;
-const ROWS: usize = 64;
 const MOST_READY: usize = 64;
-
-/// The words of a segment: 64 rows of addresses, 64 words of attributes, the number of routes, the identifier and the two numbers set, or zeros.
-fn laid_out(table: &Table) -> Vec<u32> {
-    let mut rows = Vec::new();
-    let mut attributes = Vec::new();
-    for entry in table.entries() {
-        rows.push(u32::from(entry.address.family()));
-        rows.extend(words(entry.address));
-        let kind = u32::from(entry.algorithm) << 1 | u32::from(entry.ac_df);
-        attributes.push(kind << 17 | u32::from(entry.preference) << 1 | u32::from(entry.dp));
-    }
-    let count = attributes.len() as u32;
-    rows.resize(ROWS * ROW, 0);
-    attributes.resize(ROWS, 0);
-    let esi = table.esi().iter().map(|octet| u32::from(*octet));
-    let set = numbers(table).map(u32::from);
-    let all = rows.into_iter().chain(attributes).chain([count]);
-    all.chain(esi).chain(set).collect()
-}
-
-/// The numbers set, or zeros.
-fn numbers(table: &Table) -> [u8; 2] {
-    let set = table.flow_algorithms();
-    set.map_or([0, 0], rules::FlowAlgorithms::numbers)
-}
-
-/// What a side lets one see of its state.
-trait State {
-    fn has(&self, table: &Table) -> bool;
-}
-
-impl State for proved::Table {
-    fn has(&self, table: &Table) -> bool {
-        self.words()[..] == laid_out(table)
-    }
-}
-
-impl State for array::Table {
-    fn has(&self, _: &Table) -> bool {
-        true
-    }
-}
-
-impl State for list::List {
-    fn has(&self, _: &Table) -> bool {
-        true
-    }
-}
-
-/// A query of any kind. S and G have any length.
-#[derive(Clone, Debug)]
-enum Query {
-    Plain,
-    SourceGroup(Vec<u8>, Vec<u8>),
-    AnySource(Vec<u8>),
-    ByCircuits,
-}
-
-impl Query {
-    fn flow(&self) -> Option<rules::Flow<'_>> {
-        match self {
-            Query::SourceGroup(source, group) => Some(rules::Flow::SourceGroup { source, group }),
-            Query::AnySource(group) => Some(rules::Flow::AnySource { group }),
-            Query::Plain | Query::ByCircuits => None,
-        }
-    }
-
-    /// The number set for its kind; 0 if it is plain, or where none are set.
-    fn number(&self, table: &Table) -> u8 {
-        let [source_group, any_source] = numbers(table);
-        match self {
-            Query::SourceGroup(..) => source_group,
-            Query::AnySource(_) => any_source,
-            Query::Plain | Query::ByCircuits => 0,
-        }
-    }
-
-    fn has_wrong_length(&self) -> bool {
-        let fits = |octets: &[u8]| octets.len() == 4 || octets.len() == 16;
-        match self {
-            Query::SourceGroup(source, group) => source.len() != group.len() || !fits(group),
-            Query::AnySource(group) => !fits(group),
-            Query::Plain | Query::ByCircuits => false,
-        }
-    }
-}
-
-/// A side with its Ethernet A-D routes, and the reference with its own.
-struct Beside<T: Segment> {
-    side: T,
-    side_circuits: T::Circuits,
-    table: Table,
-    circuits: ad_routes::Circuits,
-}
-
-impl<T: Segment + State> Beside<T> {
-    fn new() -> Beside<T> {
-        let beside = Beside {
-            side: T::empty(),
-            side_circuits: T::Circuits::empty(),
-            table: Table::fresh(&[]).1,
-            circuits: ad_routes::Circuits::fresh(),
-        };
-        beside.same_state("empty");
-        beside
-    }
-
-    fn fresh(&mut self, esi: &[u8]) {
-        let (told, table) = Table::fresh(esi);
-        self.table = table;
-        assert_eq!(self.side.fresh(esi), answer_number(&told), "fresh");
-        self.same_state("fresh");
-    }
-
-    fn same_state(&self, place: &str) {
-        assert!(self.side.has(&self.table), "{place}: another state");
-    }
-
-    fn announce(&mut self, route: &[u8], communities: &[u8], place: &str) {
-        let told = Verdict {
-            number: answer_number(&self.table.announce(route, communities)),
-            place: reference::route::place(route),
-        };
-        assert_eq!(self.side.announce(route, communities), told, "{place}");
-        self.same_state(place);
-    }
-
-    fn withdraw(&mut self, address: Address, place: &str) {
-        let number = answer_number(&self.table.withdraw(theirs(address)));
-        assert_eq!(self.side.withdraw(address), number, "{place}");
-        self.same_state(place);
-    }
-
-    /// Sets both numbers, and gives the answer.
-    fn set(&mut self, source_group: u8, any_source: u8, place: &str) -> u8 {
-        let told = self.table.set_flow_algorithms(source_group, any_source);
-        let number = self.side.set_flow_algorithms(source_group, any_source);
-        assert_eq!(number, answer_number(&told), "{place}");
-        self.same_state(place);
-        number
-    }
-
-    /// Announces an Ethernet A-D route, per segment without a tag.
-    fn announce_circuit(&mut self, tag: Option<u32>, address: Address) {
-        let own = theirs(address);
-        let (route, named) = match tag {
-            None => (
-                Circuit::per_segment(address),
-                ad_routes::Circuit::PerSegment { address: own },
-            ),
-            Some(tag) => (
-                Circuit::per_instance(tag, address),
-                ad_routes::Circuit::PerInstance { tag, address: own },
-            ),
-        };
-        let number = answer_number(&self.circuits.announce(named));
-        assert_eq!(self.side_circuits.announce(route), number);
-    }
-
-    /// The reference's whole answer.
-    fn told(&self, query: &Query, tag: u32, ready: &[u32]) -> Answer {
-        whole(match query.flow() {
-            Some(flow) => rules::elect_rows(&self.table, flow, tag, ready),
-            None if matches!(query, Query::Plain) => election::elect_rows(&self.table, tag, ready),
-            None => ad_routes::elect(&self.table, &self.circuits, tag),
-        })
-    }
-
-    /// Elects on both, and gives the answer.
-    fn elect(&self, query: &Query, tag: u32, ready: &[u32], place: &str) -> Answer {
-        let side = &self.side;
-        let answer = match query {
-            Query::Plain => side.elect(tag, ready),
-            Query::SourceGroup(source, group) => side.elect_source_group(source, group, tag, ready),
-            Query::AnySource(group) => side.elect_any_source(group, tag, ready),
-            Query::ByCircuits => side.elect_by_circuits(&self.side_circuits, tag),
-        };
-        let told = self.told(query, tag, ready);
-        assert_eq!(answer, told, "{place}: {query:?}, tag {tag}");
-        self.same_state(place);
-        answer
-    }
-
-    fn returning(&self, address: Address, algorithm: u8, preference: u16, dp: bool, place: &str) {
-        let sent = returning(&self.table, address, algorithm, preference, dp);
-        let own = self.side.returning(address, algorithm, preference, dp);
-        assert_eq!(own, sent, "{place}");
-        self.same_state(place);
-    }
-
-    /// Every kind of query with all routers ready, after any call.
-    fn elect_each(&self, place: &str) {
-        let routers = self.table.entries().iter();
-        let routers: Vec<Address> = routers.map(|entry| ours(entry.address)).collect();
-        let ready = workload::rows(&routers);
-        let (source, group) = (vec![192, 0, 2, 1], vec![232, 1, 2, 3]);
-        let flow = Query::SourceGroup(source, group.clone());
-        for query in [Query::Plain, flow, Query::AnySource(group)] {
-            self.elect(&query, 1, &ready, place);
-        }
-    }
-}
 
 /// What the calls of one seed draw from.
 struct Pool {
@@ -606,7 +399,13 @@ fn call<T: Segment + State>(
         45..=48 => {
             let (address, algorithm) = (pool.address(), pool.random.below(5) as u8);
             let (preference, dp) = (pool.random.word() as u16, !pool.random.one_in(4));
-            beside.returning(address, algorithm, preference, dp, place);
+            let own = Returning {
+                address,
+                algorithm,
+                preference,
+                dp,
+            };
+            beside.returning(own, place);
         }
         49..=52 => {
             let tag = pool.tags[pool.random.below(3)];

@@ -84,7 +84,8 @@ impl Circuits {
 }
 
 /// The election over both tables: document 01's, with the list of those routers of the route table
-/// that are ready. So the list has at most 64 and 11 does not occur.
+/// that are ready. So the list has at most 64 and 11 does not occur; the numbers and the ranges that
+/// are set act as they do there.
 pub fn elect(table: &Table, circuits: &Circuits, tag: u32) -> Result<Election, Refusal> {
     let routers = table.entries().iter().map(|entry| entry.address);
     let ready: Vec<Address> = routers

@@ -1,5 +1,6 @@
 //! The election for one Ethernet Tag. Document 01, "The election"; document 02, M-105 (addresses
-//! of both families) and M-106 (agreement on a number that the operator set).
+//! of both families), M-106 (agreement on a number that the operator set) and M-109 (ranges of
+//! tags that override Highest or Lowest).
 
 use crate::address::{Address, ROW_WORDS};
 use crate::community::{HIGHEST_PREFERENCE, LOWEST_PREFERENCE};
@@ -77,15 +78,17 @@ pub(crate) fn check(tag: u32, ready: &Ready) -> Result<(), Refusal> {
     Ok(())
 }
 
-/// The plain election. Under an agreement on a number that is set it uses algorithm 1.
+/// The plain election. Under an agreement on a number that is set it uses algorithm 1; under 2 or 3
+/// a tag inside a range that is set gets the algorithm that the range names.
 pub(crate) fn elect_listed(table: &Table, tag: u32, ready: &Ready) -> Result<Election, Refusal> {
     check(tag, ready)?;
     let (agreed, ac_df) = algorithm_in_use(table);
-    let algorithm = if agreed <= LOWEST_PREFERENCE {
+    let for_all_tags = if agreed <= LOWEST_PREFERENCE {
         agreed
     } else {
         HIGHEST_RANDOM_WEIGHT
     };
+    let algorithm = table.ranges().overriding(for_all_tags, tag);
     elect_among(table, algorithm, ac_df, ready, |eligible| match algorithm {
         HIGHEST_RANDOM_WEIGHT => by_weight(eligible, hrw::digest(tag, table.esi())),
         HIGHEST_PREFERENCE | LOWEST_PREFERENCE => by_preference(eligible, algorithm),
@@ -112,8 +115,9 @@ pub(crate) fn elect_among(
     })
 }
 
-/// The algorithm in use and whether AC-DF is in use. All routes must carry one algorithm, from 0 to
-/// 3 or one of the numbers set, and one AC-DF bit; otherwise it is algorithm 0 without AC-DF.
+/// The algorithm in use, ranges of tags apart, and whether AC-DF is in use. All routes must carry
+/// one algorithm, from 0 to 3 or one of the numbers set, and one AC-DF bit; otherwise it is
+/// algorithm 0 without AC-DF.
 pub fn algorithm_in_use(table: &Table) -> (u8, bool) {
     let Some(first) = table.entries().first() else {
         return (DEFAULT_ALGORITHM, false);

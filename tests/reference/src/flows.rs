@@ -98,7 +98,8 @@ pub fn elect_rows(table: &Table, flow: Flow, tag: u32, words: &[u32]) -> Result<
 }
 
 /// Where all routes agree on the number of the flow's kind, the weights are those of algorithm 1
-/// over the flow's digest. Everywhere else the answer is that of the plain query for the tag.
+/// over the flow's digest. Everywhere else the answer is that of the plain query for the tag, ranges
+/// of tags and all.
 fn elect_listed(table: &Table, flow: Flow, tag: u32, ready: &Ready) -> Result<Election, Refusal> {
     election::check(tag, ready)?;
     flow.check()?;

@@ -5,8 +5,8 @@
 //! and prefers the plainest form of each rule to a quick one: the table is a sorted `Vec`, the
 //! CRC goes bit by bit, the weight is computed over numbers that cannot run over.
 //!
-//! One module for each section of document 01, one for addresses, one for Ethernet A-D routes and
-//! one for multicast flows:
+//! One module for each section of document 01, one for addresses, one for Ethernet A-D routes, one
+//! for multicast flows and one for ranges of tags:
 //!
 //! - `refusal`: the refusal numbers
 //! - `address`: addresses of both families, and their order
@@ -18,6 +18,7 @@
 //! - `election`: the election for one Ethernet Tag
 //! - `circuits`: the Ethernet A-D routes, and the election over both tables
 //! - `flows`: the elections by multicast flow, and the numbers set for them
+//! - `ranges`: the ranges of tags that override Highest or Lowest
 //! - `returning`: the preference of a returning router
 //! - `bench`: the bench program
 //! - `encode`: text lines to bench records, for a person at the bench
@@ -33,6 +34,7 @@ pub mod encode;
 pub mod esi;
 pub mod flows;
 pub mod hrw;
+pub mod ranges;
 pub mod refusal;
 pub mod returning;
 pub mod route;

@@ -20,6 +20,7 @@ pub enum Refusal {
     Algorithm = 15,
     BadRecord = 16,
     FlowLength = 18,
+    Ranges = 20,
 }
 
 impl Refusal {

@@ -1,7 +1,8 @@
-//! The preference a returning router advertises. Document 01, "The returning router".
+//! The preference a returning router advertises. Document 01, "The returning router"; document 02,
+//! M-109 (both references where ranges of tags are set).
 
 use crate::address::Address;
-use crate::community::{uses_preference, LOWEST_PREFERENCE};
+use crate::community::{uses_preference, HIGHEST_PREFERENCE, LOWEST_PREFERENCE};
 use crate::election::by_preference;
 use crate::refusal::Refusal;
 use crate::table::{Entry, Table};
@@ -32,34 +33,32 @@ pub fn advertise(
         .copied()
         .filter(|entry| entry.address != own_address)
         .collect();
-    Ok(sent(&others, own_algorithm, administrative))
+    if others.iter().any(|entry| entry.algorithm != own_algorithm) || !administrative.dp {
+        return Ok(administrative);
+    }
+    // with any range set the router may stand against either winner, whatever its own algorithm
+    let tried = if table.ranges().is_empty() {
+        vec![own_algorithm]
+    } else {
+        vec![HIGHEST_PREFERENCE, LOWEST_PREFERENCE]
+    };
+    let mut inherited = tried
+        .into_iter()
+        .filter_map(|algorithm| inherited(&others, algorithm, administrative.preference));
+    Ok(inherited.next().unwrap_or(administrative))
 }
 
-/// The pair sent beside the other routes.
-fn sent(others: &[Entry], own_algorithm: u8, administrative: Advertised) -> Advertised {
-    if !administrative.dp {
-        return administrative;
+/// The pair that the router sends beside the reference by an algorithm, if it fits: the other route
+/// that wins by it has DP set, and the router would take over from it.
+fn inherited(others: &[Entry], algorithm: u8, own: u16) -> Option<Advertised> {
+    let reference = by_preference(others, algorithm)?;
+    if !reference.dp || !would_take_over(own, reference.preference, algorithm) {
+        return None;
     }
-    if others.iter().any(|entry| entry.algorithm != own_algorithm) {
-        return administrative;
-    }
-    let Some(reference) = by_preference(others, own_algorithm) else {
-        return administrative;
-    };
-    if !reference.dp {
-        return administrative;
-    }
-    if !would_take_over(
-        administrative.preference,
-        reference.preference,
-        own_algorithm,
-    ) {
-        return administrative;
-    }
-    Advertised {
+    Some(Advertised {
         preference: reference.preference,
         dp: false,
-    }
+    })
 }
 
 /// At least the reference's preference or, under Lowest-Preference, at most.

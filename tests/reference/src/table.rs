@@ -1,11 +1,12 @@
-//! The routes of one segment, in rising address order, and the algorithm numbers that the operator
-//! set for elections by flow. Document 01, "The table"; document 02, M-105 (addresses of both
-//! families) and M-106 (the numbers).
+//! The routes of one segment, in rising address order, and what the operator set beside them: the
+//! algorithm numbers for elections by flow, and ranges of tags. Document 01, "The table"; document
+//! 02, M-105 (addresses of both families), M-106 (the numbers) and M-109 (the ranges).
 
 use crate::address::Address;
 use crate::community;
 use crate::esi::{self, Esi, ESI_LENGTH};
 use crate::flows::FlowAlgorithms;
+use crate::ranges::Ranges;
 use crate::refusal::Refusal;
 use crate::route;
 
@@ -27,11 +28,12 @@ pub struct Table {
     esi: Esi,
     entries: Vec<Entry>,
     flow_algorithms: Option<FlowAlgorithms>,
+    ranges: Ranges,
 }
 
 impl Table {
-    /// A fresh table, with no numbers set. For a reserved identifier: 4, with an empty table of the
-    /// all-zero one.
+    /// A fresh table, with no numbers and no ranges set. For a reserved identifier: 4, with an empty
+    /// table of the all-zero one.
     pub fn fresh(esi: &[u8]) -> (Result<(), Refusal>, Table) {
         match esi::usable(esi) {
             Ok(esi) => (Ok(()), Table::empty(esi)),
@@ -44,6 +46,7 @@ impl Table {
             esi,
             entries: Vec::new(),
             flow_algorithms: None,
+            ranges: Ranges::default(),
         }
     }
 
@@ -64,6 +67,18 @@ impl Table {
     /// 30, 15; then the old ones are kept.
     pub fn set_flow_algorithms(&mut self, source_group: u8, any_source: u8) -> Result<(), Refusal> {
         self.flow_algorithms = Some(FlowAlgorithms::of(source_group, any_source)?);
+        Ok(())
+    }
+
+    /// The ranges that were set last.
+    pub fn ranges(&self) -> &Ranges {
+        &self.ranges
+    }
+
+    /// Sets the ranges of tags in place of all old ones, from a run of numbers, three a range. A
+    /// run that says no good ranges, 20; then the old ones are kept.
+    pub fn set_ranges(&mut self, run: &[u32]) -> Result<(), Refusal> {
+        self.ranges = Ranges::of(run)?;
         Ok(())
     }
 

@@ -3,6 +3,7 @@
 //!
 //! - `sides`: the three sides of a comparison
 //! - `rows`: the rows of the table, each rounds of calls
+//! - `ranges`: rows in pairs, without ranges of tags and with them, for a table of their own
 //! - `cost`: instructions and time of a call, by the difference of 2K and K rounds
 //! - `programs`: the bench program's rows
 //! - `print`: the tables
@@ -10,6 +11,7 @@
 mod cost;
 mod print;
 mod programs;
+mod ranges;
 mod rows;
 mod sides;
 
@@ -19,7 +21,9 @@ use std::path::Path;
 fn main() -> io::Result<()> {
     let words: Vec<String> = std::env::args().collect();
     let words: Vec<&str> = words.iter().map(String::as_str).collect();
-    let rows = rows::all();
+    let mut rows = rows::all();
+    let of_the_table = rows.len();
+    rows.extend(ranges::pairs());
     let (timed, folder, program) = match words[1..] {
         ["counted"] => {
             cost::be_counted(&rows);
@@ -38,9 +42,12 @@ fn main() -> io::Result<()> {
     let folder = Path::new(folder);
 
     rows::check(&rows);
-    print::counts(&rows, &cost::counts(folder, &rows)?);
+    let counts = cost::counts(folder, &rows)?;
+    let (rows, pairs) = rows.split_at(of_the_table);
+    print::counts(rows, &counts[..of_the_table]);
+    print::with_ranges(pairs, &counts[of_the_table..]);
     if timed {
-        print::times(&rows, &cost::times(&rows));
+        print::times(rows, &cost::times(rows));
     }
     print::programs(&programs::measured(folder, program, timed)?);
     Ok(())

@@ -3,6 +3,7 @@
 
 use crate::cost::Costs;
 use crate::programs::Program;
+use crate::ranges;
 use crate::rows::{Measure, Row, Target};
 use crate::sides::SIDES;
 use benchmarks::workload::Families;
@@ -40,6 +41,34 @@ fn table(rows: &[Row], measured: &[Costs], measure: Measure) {
         line(&cells);
     }
     println!("\nTargets by {word} met: {met} of {judged}.\n");
+}
+
+/// A table of instructions of rows in pairs, without ranges of tags and with them: each side's ratio of its own cost, of which ours is judged.
+pub fn with_ranges(rows: &[Row], counts: &[Costs]) {
+    let mut names = ["Call", "Addresses", "Routes"].map(String::from).to_vec();
+    for side in &SIDES {
+        names.push(format!("{} ins, no range", side.name));
+        names.extend(["16 ranges", "ratio"].map(String::from));
+    }
+    names.extend(["Target", ""].map(String::from));
+    line(&names);
+    println!("|---|---|{}---|---|", "--:|".repeat(1 + 3 * SIDES.len()));
+    let (mut judged, mut met) = (0, 0);
+    for (two, costs) in rows.chunks_exact(2).zip(counts.chunks_exact(2)) {
+        let mut cells = start(&two[0]);
+        for (without, with) in costs[0].iter().zip(&costs[1]) {
+            cells.push(format!("{without:.0}"));
+            cells.push(format!("{with:.0}"));
+            cells.push(format!("{:.2}", with / without));
+        }
+        let within = costs[1][0] / costs[0][0] <= ranges::MOST;
+        judged += 1;
+        met += usize::from(within);
+        cells.push(format!("{:.2} ours", ranges::MOST));
+        cells.push(if within { "met" } else { "missed" }.into());
+        line(&cells);
+    }
+    println!("\nTargets with ranges met: {met} of {judged}.\n");
 }
 
 pub fn programs(programs: &[Program]) {

@@ -6,7 +6,7 @@ use benchmarks::random::Random;
 use benchmarks::rounds::Work;
 use benchmarks::workload::{self, Families, ESI, FLOW_ALGORITHMS};
 
-const SIZES: [usize; 4] = [2, 3, 8, 64];
+pub const SIZES: [usize; 4] = [2, 3, 8, 64];
 const FAMILIES: [Families; 3] = [Families::V4, Families::V6, Families::Mixed];
 /// From so many routes on a new one, or one that goes, moves rows enough to be judged by time.
 const MANY: usize = 8;
@@ -80,7 +80,7 @@ pub struct Row {
 }
 
 /// A row of one call to a round.
-fn row(name: &str, table: Option<Table>, target: Target, work: Work) -> Row {
+pub fn row(name: &str, table: Option<Table>, target: Target, work: Work) -> Row {
     Row {
         name: name.into(),
         table,
@@ -130,7 +130,7 @@ pub fn all() -> Vec<Row> {
 }
 
 impl Table {
-    fn addresses(self, random: &mut Random) -> Vec<Address> {
+    pub fn addresses(self, random: &mut Random) -> Vec<Address> {
         workload::addresses(self.routes, self.families, random)
     }
 }

@@ -1,5 +1,5 @@
-//! The worked examples of RFC 9785, sections 4.1 and 4.3 (a range of tags with a policy of its
-//! own, section 4.2, is not built). PE1, PE2 and PE3 are 10.0.0.1, 10.0.0.2 and 10.0.0.3.
+//! The worked examples of RFC 9785, sections 4.1 to 4.3. PE1, PE2 and PE3 are 10.0.0.1, 10.0.0.2
+//! and 10.0.0.3.
 
 use crate::common::*;
 use reference::returning::{advertise, Advertised};
@@ -79,6 +79,17 @@ fn section_4_1_f_less_bandwidth() {
     assert_eq!(elected(&table, 1), Ok(ten(2)));
 }
 
+/// ES3: 500 in PE1 and 100 in PE2, Highest, and Lowest for the tags 2001 to 4000.
+#[test]
+fn section_4_2_a_range_of_tags() {
+    let mut table = preference_table(HIGHEST, &[(ten(1), 500, false), (ten(2), 100, false)]);
+    assert_eq!(table.set_ranges(&[2001, 4000, LOWEST.into()]), Ok(()));
+    for tag in 1..=4000 {
+        let forwarder = if tag <= 2000 { ten(1) } else { ten(2) };
+        assert_eq!(elected(&table, tag), Ok(forwarder));
+    }
+}
+
 #[test]
 fn section_4_3_revertive() {
     let mut table = second_segment(HIGHEST, false);
@@ -111,6 +122,34 @@ fn section_4_3_non_revertive() {
     assert_eq!(table.withdraw(ten(2)), Ok(()));
     configure(&mut table, 3, 300, true, HIGHEST);
     assert_eq!(elected(&table, 1), Ok(ten(3)));
+}
+
+/// The same with Lowest for tag 2: PE1 forwards for it all the while, and PE3, whose preference is
+/// at least the Highest-PE's, takes nothing over when it comes back.
+#[test]
+fn section_4_3_non_revertive_with_a_range() {
+    let mut table = second_segment(HIGHEST, true);
+    assert_eq!(table.set_ranges(&[2, 2, LOWEST.into()]), Ok(()));
+    let forwarders = |table: &Table| [1, 2].map(|tag| elected(table, tag).expect("one"));
+    assert_eq!(forwarders(&table), [ten(3), ten(1)]);
+    assert_eq!(table.withdraw(ten(3)), Ok(()));
+    assert_eq!(forwarders(&table), [ten(2), ten(1)]);
+    let sent = |table: &Table, preference| {
+        let own = Advertised {
+            preference,
+            dp: true,
+        };
+        let pair = advertise(table, ten(3), HIGHEST, own);
+        pair.map(|pair| (pair.preference, pair.dp))
+    };
+    assert_eq!(sent(&table, 300), Ok((200, false)));
+    assert_eq!(sent(&table, 150), Ok((150, true)));
+    assert_eq!(sent(&table, 100), Ok((100, false)));
+    assert_eq!(sent(&table, 50), Ok((100, false)));
+    configure(&mut table, 3, 200, false, HIGHEST);
+    assert_eq!(forwarders(&table), [ten(2), ten(1)]);
+    configure(&mut table, 3, 100, false, HIGHEST);
+    assert_eq!(forwarders(&table), [ten(2), ten(1)]);
 }
 
 #[test]
