@@ -20,11 +20,8 @@ const ROWS: usize = 64;
 const RANGES: usize = 16;
 const RANGE: usize = 3;
 
-/// Whether the words of a segment end with the ranges once more, in falling order of their first tags.
-const INDEX: bool = false;
-
 /// The words of a segment: 64 rows of addresses, 64 words of attributes, the number of routes, the identifier and the two numbers set, or zeros; then the
-/// ranges of tags.
+/// ranges of tags, and these once more, in falling order of their first tags.
 fn laid_out(table: &Table) -> Vec<u32> {
     let mut rows = Vec::new();
     let mut attributes = Vec::new();
@@ -42,9 +39,7 @@ fn laid_out(table: &Table) -> Vec<u32> {
     let all = rows.into_iter().chain(attributes).chain([count]);
     let mut all: Vec<u32> = all.chain(esi).chain(set).collect();
     all.extend(ranges(table));
-    if INDEX {
-        all.extend(falling_ranges(table));
-    }
+    all.extend(falling_ranges(table));
     all
 }
 
