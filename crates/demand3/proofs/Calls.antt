@@ -17,7 +17,7 @@ use Rattle.keyed.specs.Journal.{hold, release, neither, journalNumber}
 use Rattle.keyed.proofs.Keyed.{map-has, map-insert, map-remove}
 use Rattle.keyed.proofs.Journal.{Rules, placed}
 use Rattle.layout.specs.Table.{Entry, Table, entryKey, tableOf, WellFormed}
-use Rattle.table.specs.Table.{announceNumber, withdrawNumber, announced, withdrawn, Told}
+use Rattle.table.specs.Table.{announceNumber, withdrawNumber, announced, withdrawn, Change, Told}
 use Rattle.layout.specs.Words.{tableIn}
 use Rattle.table.proofs.Calls.{announced-kept, withdrawn-kept, passed-route, passed-esi, passed-list, passed-room}
 use Rattle.settings.specs.Settings.{Settings, numbersSet, rangesGiven, SettingsRight, settingsIn, SettingsTold}
@@ -155,15 +155,9 @@ settings-kept g (elect q tag ready) w = w
 settings-kept g (returning a alg p d) w = w
 
 -- what the code answers is the list's call: it changes the table, or the settings, and leaves the other
-pub announce-changes : (s : Segment) (r c : List ℕ) (n p : ℕ) (b : List ℕ) → Told (announced (s .table) r c) n p b
-    → Changes s (announce r c) n (record { table = tableIn b; settings = s .settings })
-unfolding replyTo tableLeft settingsLeft
-announce-changes s r c n p b o = (ap changeReply (sym (o .0)), rw (o .2))
-
-pub withdraw-changes : (s : Segment) (a : List ℕ) (n p : ℕ) (b : List ℕ) → Told (withdrawn (s .table) a) n p b
-    → Changes s (withdraw a) n (record { table = tableIn b; settings = s .settings })
-unfolding replyTo tableLeft settingsLeft
-withdraw-changes s a n p b o = (ap changeReply (sym (o .0)), rw (o .2))
+pub table-changes : (s : Segment) (c : Call) (k : Change) (n p : ℕ) (b : List ℕ) → Changes s c (k .number) (record { table = k .table; settings = s .settings }) → Told k n p b
+    → Changes s c n (record { table = tableIn b; settings = s .settings })
+table-changes s c k n p b h o = rw (o .0, o .2) h
 
 pub numbers-changes : (s : Segment) (a b n : ℕ) (w : List ℕ) → SettingsTold (numbersSet (s .settings) a b) n w
     → Changes s (setNumbers a b) n (record { table = s .table; settings = settingsIn w })

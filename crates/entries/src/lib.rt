@@ -3,79 +3,91 @@ use address::Address;
 use address::Family;
 use layout::ATTRIBUTES;
 use layout::COUNT;
-use layout::MAX_ROUTES;
 use rows::Found;
 use rows::Lookup;
+use rows::Order;
 ghost use mathlib.Core.Path.{_≡_};
-ghost use mathlib.Core.Bool.{true};
 ghost use mathlib.Core.List.{[], _∷_, map};
 ghost use Prim.Native.Nat.{_≤_, _<_};
 ghost use lib.ListN.{length, getD, set};
 ghost use Rattle.keyed.specs.Keyed.{spliced, dropAt};
-ghost use Rattle.rows.specs.Rows.{foundIn, looksFor};
+ghost use Rattle.rows.specs.Rows.{keyOrder, foundIn, looksBetween, looksFor};
 ghost use Rattle.address.specs.Address.{addressRow, addressKey};
 ghost use Rattle.layout.specs.Table.{entryKey, noEntry, tableOf};
 ghost use Rattle.layout.specs.Words.{entryIn, wordsOf, tableIn, Valid};
 
-// Whether an IPv4 address stands at a place: its family and its first word tell, since the other words of an IPv4 entry are zero. Of an IPv6 address the answer is always no,
-// and the search is left to tell.
-fn is_ipv4_at(t: &[u32], at: usize, address: Address) -> bool
-    requires { ⌜ Valid (now t) ⌝ }
-    ensures { λ r. ⌜ (r ≡ true → (at < length (tableIn (now (t .entry)) .entries)) × (entryKey (getD (tableIn (now (t .entry)) .entries) at noEntry) ≡ addressKey (addressRow address))) ⌝ }
+// How the entry at a place stands to an address. For an IPv4 address its family and its first word tell: an IPv6 entry is above it, and the other words of an IPv4 entry
+// are zero.
+fn order_at(t: &[u32], at: usize, address: Address) -> Order
+    requires { ⌜ Valid (now t) × (at < length (tableIn (now t) .entries)) ⌝ }
+    ensures { λ r. ⌜ r ≡ keyOrder (entryKey (getD (tableIn (now (t .entry)) .entries) at noEntry)) (addressKey (addressRow address)) ⌝ }
 {
     let family = address.family;
     match family {
-        Family::V6 => false,
         Family::V4 => {
-            if layout::count(t) <= at {
-                return false;
-            }
             if layout::family_at(t, at) != 4 {
-                return false;
+                return Order::Greater;
             }
             let words = layout::words_at(t, at);
-            words[0] == address.w0
+            if words[0] == address.w0 {
+                return Order::Equal;
+            }
+            if words[0] < address.w0 {
+                return Order::Less;
+            }
+            Order::Greater
+        }
+        Family::V6 => {
+            let row = address::row(address);
+            let start = at * address::WIDTH;
+            rows::compare(t, start, &row)
         }
     }
 }
 
-// Searches for an address, the entry at the place `first` before all others (the one in the middle where `first` is no place in use): where it stands, and how
-// many entries were compared with it, seven at most.
-// Every search in a table goes through here.
-fn search(t: &[u32], first: usize, address: Address) -> Lookup
+// Searches for an address by halving, the entry in the middle first: where it stands, and how many entries were compared with it, seven at most.
+fn search(t: &[u32], address: Address) -> Lookup
     requires { ⌜ Valid (now t) ⌝ }
     ensures found { λ r. ⌜ r .found ≡ foundIn entryKey (addressKey (addressRow address)) (tableIn (now (t .entry)) .entries) ⌝ }
-    ensures looks { λ r. ⌜ r .looks ≡ length (looksFor first (addressKey (addressRow address)) (map entryKey (tableIn (now (t .entry)) .entries))) ⌝ }
+    ensures looks { λ r. ⌜ r .looks ≡ length (looksBetween (addressKey (addressRow address)) (map entryKey (tableIn (now (t .entry)) .entries)) 0 (length (tableIn (now (t .entry)) .entries))) ⌝ }
     ensures few { λ r. ⌜ r .looks ≤ 7 ⌝ }
 {
     let n = layout::count(t);
     let row = address::row(address);
-    rows::search(t, n, first, &row)
+    rows::search_between(t, n, 0, n, 0, &row)
 }
 
-// Looks an address up near a place: where the entry at the place `first` is that of the address, as in a list that rises as the table does, this look is all; else the table
-// is searched, that entry first.
+// Looks an address up near a place. The first look is at the entry at the place `first`: where it is that of the address, as in a list that rises as the table does, this
+// look is all; else the search goes on from its outcome. Where `first` is no place in use the first look is in the middle. No entry is compared twice.
 pub fn lookup(t: &[u32], first: usize, address: Address) -> Lookup
     requires { ⌜ Valid (now t) ⌝ }
     ensures found { λ r. ⌜ r .found ≡ foundIn entryKey (addressKey (addressRow address)) (tableIn (now (t .entry)) .entries) ⌝ }
     ensures looks { λ r. ⌜ r .looks ≡ length (looksFor first (addressKey (addressRow address)) (map entryKey (tableIn (now (t .entry)) .entries))) ⌝ }
     ensures few { λ r. ⌜ r .looks ≤ 7 ⌝ }
 {
-    if is_ipv4_at(t, first, address) {
-        return Lookup {
+    let n = layout::count(t);
+    if n <= first {
+        return search(t, address);
+    }
+    let order = order_at(t, first, address);
+    match order {
+        Order::Equal => Lookup {
             found: Found::At(first),
             looks: 1,
-        };
+        },
+        _ => {
+            let row = address::row(address);
+            rows::after_look(t, n, first, order, &row)
+        }
     }
-    search(t, first, address)
 }
 
-// Where an address stands, or would stand. No place in use is proposed, so the entry in the middle is looked at first.
+// Where an address stands, or would stand.
 pub fn find(t: &[u32], address: Address) -> Found
     requires { ⌜ Valid (now t) ⌝ }
     ensures { λ r. ⌜ r ≡ foundIn entryKey (addressKey (addressRow address)) (tableIn (now (t .entry)) .entries) ⌝ }
 {
-    let r = search(t, MAX_ROUTES, address);
+    let r = search(t, address);
     r.found
 }
 

@@ -97,14 +97,9 @@ setOf-set (b ∷ bs) (suc i) h =
     let o : 2 ^ suc i % 2 ≡ 0 = omega arith in
     rw (or-step (setOf (b ∷ bs)) (2 ^ suc i), e, o, setOf-half b bs, setOf-low b bs, setOf-set bs i (le-of-suc-le-suc h), max-zero (cond b 1 0)) (omega arith)
 
-module _ (s i : ℕ) where
-  pub withPlace-in : i < 64 → withPlace s i ≡ bitOr s (2 ^ i)
-  unfolding withPlace
-  withPlace-in h = simp (lt-ltb i 64 h)
-
-  pub withPlace-out : 64 ≤ i → withPlace s i ≡ s
-  unfolding withPlace
-  withPlace-out h = simp (le-ltb i 64 h)
+pub withPlace-in : (s i : ℕ) → i < 64 → withPlace s i ≡ bitOr s (2 ^ i)
+unfolding withPlace
+withPlace-in s i h = simp (lt-ltb i 64 h)
 
 pub withPlace-set : (bs : List Bool) (i : ℕ) → i < length bs → length bs ≤ 64 → withPlace (setOf bs) i ≡ setOf (set bs i true)
 withPlace-set bs i h k = withPlace-in (setOf bs) i (omega arith) ∙ setOf-set bs i h

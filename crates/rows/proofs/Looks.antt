@@ -1,29 +1,32 @@
--- Which rows a search by halving compares: one step for each outcome of a look, and the bound. Assumes nothing.
+-- Which rows a search by halving compares: what is left to compare after each outcome of a look, and the bound. Assumes nothing.
 use Prim.Native.Nat.{ℕ, zero, suc, _+_, _-_, _^_, _≤_, _<_, zero-le, suc-le-suc}
 use native.Mathlib.Nat.{two-pow-succ}
 use native.Mathlib.Omega.{arith}
-use mathlib.Core.Path.{_≡_, refl, ap, _∙_}
+use mathlib.Core.Path.{_≡_, refl, ap, sym, _∙_}
 use mathlib.Core.List.{List, [], _∷_}
 use lib.ListN.{length, getD}
 use borrow.Author.Tests.{lt-ltb, le-ltb}
 use Rattle.lists.proofs.Numbers.{either, ordered}
-use Rattle.rows.specs.Rows.{middle, looked, firstLook, looksFor}
+use Rattle.rows.specs.Rows.{middle, looked, looksBetween, firstLook, looksFor}
 
-pub first-lt : (first n : ℕ) → 0 < n → firstLook first n < n
+first-lt : (first n : ℕ) → 0 < n → firstLook first n < n
 unfolding firstLook
 first-lt first n h =
     either first n
     (λ p. rw (lt-ltb first n p) p)
     (λ p. rw (le-ltb first n p) (omega arith))
 
+pub look-lt : {at : ℕ} (first n : ℕ) → at ≡ firstLook first n → 0 < n → at < n
+look-lt first n e h = rw e (first-lt first n h)
+
 module _ (m : ℕ) (ks : List ℕ) where
   abbrev keyAt : ℕ → ℕ
   keyAt i = getD ks i 0
 
-  none-left : (f lo at hi : ℕ) → hi ≤ lo → looked f m ks lo at hi ≡ []
+  pub looked-none : (f lo at hi : ℕ) → hi ≤ lo → looked f m ks lo at hi ≡ []
   unfolding looked
-  none-left zero lo at hi h = refl
-  none-left (suc f) lo at hi h = rw (le-ltb lo hi h)
+  looked-none zero lo at hi h = refl
+  looked-none (suc f) lo at hi h = rw (le-ltb lo hi h)
 
   -- one look, with each of its outcomes
   go-right : (f lo at hi : ℕ) → lo < hi → keyAt at < m → looked (suc f) m ks lo at hi ≡ at ∷ looked f m ks (at + 1) (middle (at + 1) hi) hi
@@ -48,62 +51,88 @@ module _ (m : ℕ) (ks : List ℕ) where
       (λ q. rw (go-right f lo at hi p q) (suc-le-suc r))
       (λ q. rw (stop-here f lo at hi p q) (suc-le-suc zero-le))
       (λ q. rw (go-left f lo at hi p q) (suc-le-suc l)))
-      (λ p. rw (none-left (suc f) lo at hi p) zero-le)
+      (λ p. rw (looked-none (suc f) lo at hi p) zero-le)
 
   -- a range of fewer than 2^j places takes at most j looks, the first in its middle
   range-looks : (f j lo hi : ℕ) → hi - lo < 2 ^ j → length (looked f m ks lo (middle lo hi) hi) ≤ j
   unfolding looked
-  range-looks f zero lo hi h = rw (none-left f lo (middle lo hi) hi (omega arith)) zero-le
+  range-looks f zero lo hi h = rw (looked-none f lo (middle lo hi) hi (omega arith)) zero-le
   range-looks zero (suc j) lo hi h = zero-le
   range-looks (suc f) (suc j) lo hi h =
       let two : hi - lo < 2 ^ j + 2 ^ j = rw two-pow-succ at h in
       either lo hi
       (λ p. one-more f lo (middle lo hi) hi j (range-looks f j (middle lo hi + 1) hi (omega arith)) (range-looks f j lo (middle lo hi) (omega arith)))
-      (λ p. rw (none-left (suc f) lo (middle lo hi) hi p) zero-le)
+      (λ p. rw (looked-none (suc f) lo (middle lo hi) hi p) zero-le)
 
-  -- of 2^j rows at most j + 1 are compared, wherever the first look is
+  -- of 2^j places at most j + 1 are compared, wherever the first look is
+  pub few-from : (f j lo at hi : ℕ) → (lo < hi → (lo ≤ at) × (at < hi)) → hi - lo ≤ 2 ^ j → length (looked f m ks lo at hi) ≤ suc j
+  unfolding looked
+  few-from zero j lo at hi i h = zero-le
+  few-from (suc f) j lo at hi i h =
+      either lo hi
+      (λ p. one-more f lo at hi j (range-looks f j (at + 1) hi (omega (arith, i p))) (range-looks f j lo at (omega (arith, i p))))
+      (λ p. rw (looked-none (suc f) lo at hi p) zero-le)
+
   pub few-looks : (first j : ℕ) → length ks ≤ 2 ^ j → length (looksFor first m ks) ≤ suc j
-  unfolding looksFor looked
-  few-looks first j h = from (length ks) h
-    where
-      from : (n : ℕ) → n ≤ 2 ^ j → length (looked n m ks 0 (firstLook first n) n) ≤ suc j
-      from zero l = zero-le
-      from (suc f) l =
-          let at = firstLook first (suc f) in
-          let p = first-lt first (suc f) (omega arith) in
-          one-more f 0 at (suc f) j (range-looks f j (at + 1) (suc f) (omega arith)) (range-looks f j 0 at (omega arith))
+  unfolding looksFor
+  few-looks first j h = few-from (length ks) j 0 (firstLook first (length ks)) (length ks) (λ p. (zero-le, first-lt first (length ks) p)) (omega arith)
 
-  -- THE COUNT of a loop that has compared d rows already, of n, and whose range is no longer than what is left of n
-  module _ (n first : ℕ) where
-    abbrev pub Counted : ℕ → ℕ → ℕ → ℕ → Type 0
-    Counted d lo at hi =
-        (d + length (looked (n - d) m ks lo at hi) ≡ length (looksFor first m ks)) × (d + (hi - lo) ≤ n) × (lo < hi → (lo ≤ at) × (at < hi))
+  pub few-between : (j lo hi : ℕ) → hi - lo < 2 ^ j → length (looksBetween m ks lo hi) ≤ j
+  unfolding looksBetween
+  few-between j lo hi h = range-looks (hi - lo) j lo hi h
 
-    pub count-start : (at : ℕ) → length ks ≡ n → at ≡ firstLook first n → Counted 0 0 at n
-    unfolding looksFor
-    count-start at e q =
-        let z : n - 0 ≡ n = omega arith in
-        (rw (z, q, e) (omega arith), omega arith, λ h. (zero-le, rw q (first-lt first n h)))
+  -- every number from the length of the range on gives the same looks
+  enough : (f g lo at hi : ℕ) → (lo < hi → (lo ≤ at) × (at < hi)) → hi - lo ≤ f → hi - lo ≤ g → looked f m ks lo at hi ≡ looked g m ks lo at hi
+  enough zero g lo at hi i p q = looked-none zero lo at hi (omega arith) ∙ sym (looked-none g lo at hi (omega arith))
+  enough (suc f) zero lo at hi i p q = looked-none (suc f) lo at hi (omega arith) ∙ sym (looked-none zero lo at hi (omega arith))
+  enough (suc f) (suc g) lo at hi i p q =
+      either lo hi
+      (λ h.
+      let w = i h in
+      ordered (keyAt at) m
+      (λ l. go-right f lo at hi h l ∙ ap (at ∷_) (enough f g (at + 1) (middle (at + 1) hi) hi (λ v. (omega arith, omega arith)) (omega (arith, w)) (omega (arith, w))) ∙ sym (go-right g lo at hi h l))
+      (λ e. stop-here f lo at hi h e ∙ sym (stop-here g lo at hi h e))
+      (λ r. go-left f lo at hi h r ∙ ap (at ∷_) (enough f g lo (middle lo at) at (λ v. (omega arith, omega arith)) (omega (arith, w)) (omega (arith, w))) ∙ sym (go-left g lo at hi h r)))
+      (λ h. looked-none (suc f) lo at hi h ∙ sym (looked-none (suc g) lo at hi h))
 
-    pub count-end : (d lo at hi : ℕ) → hi ≤ lo → Counted d lo at hi → d ≡ length (looksFor first m ks)
-    count-end d lo at hi h v = omega (arith, v .0, ap length (none-left (n - d) lo at hi h))
+  -- THE FIRST LOOK of a range: in the middle, or where it is proposed
+  pub between-at : (lo at hi : ℕ) → at ≡ middle lo hi → looksBetween m ks lo hi ≡ looked (hi - lo) m ks lo at hi
+  unfolding looksBetween
+  between-at lo at hi e = rw e
 
-    module _ (d lo at hi : ℕ) (h : lo < hi) (v : Counted d lo at hi) where
-      fuel : n - d ≡ suc (n - (d + 1))
-      fuel = omega (arith, v .1)
+  pub for-first : (first at n : ℕ) → length ks ≡ n → at ≡ firstLook first n → looksFor first m ks ≡ looked (n - 0) m ks 0 at n
+  unfolding looksFor
+  for-first first at n e q = let z : n - 0 ≡ n = omega arith in rw (e, q, z)
 
-      turn : (l : List ℕ) → looked (suc (n - (d + 1))) m ks lo at hi ≡ at ∷ l → d + suc (length l) ≡ length (looksFor first m ks)
-      turn l e = omega (arith, v .0, ap length (ap (λ (f : ℕ). looked f m ks lo at hi) fuel ∙ e))
+  pub for-at : (at : ℕ) → at < length ks → looksFor at m ks ≡ looked (length ks) m ks 0 at (length ks)
+  unfolding looksFor firstLook
+  for-at at h = rw (lt-ltb at (length ks) h)
 
-      pub count-right : (next : ℕ) → next ≡ middle (at + 1) hi → keyAt at < m → Counted (d + 1) (at + 1) next hi
-      count-right next e q =
-          let s = turn _ (go-right (n - (d + 1)) lo at hi h q) in
-          (rw e (omega arith), omega (arith, v .1, v .2 h), λ p. (rw e (omega arith), rw e (omega arith)))
+  pub for-middle : (first : ℕ) → length ks ≤ first → looksFor first m ks ≡ looksBetween m ks 0 (length ks)
+  unfolding looksFor firstLook looksBetween
+  for-middle first h = let z : length ks - 0 ≡ length ks = omega arith in rw (le-ltb first (length ks) h, z)
 
-      pub count-left : (next : ℕ) → next ≡ middle lo at → m < keyAt at → Counted (d + 1) lo next at
-      count-left next e q =
-          let s = turn _ (go-left (n - (d + 1)) lo at hi h q) in
-          (rw e (omega arith), omega (arith, v .1, v .2 h), λ p. (rw e (omega arith), rw e (omega arith)))
+  -- WHAT IS LEFT after a look at a place of a range, by its outcome
+  module _ (f lo at hi : ℕ) (l : lo ≤ at) (h : at < hi) (e : hi - lo ≤ f) where
+    abbrev less : ℕ
+    less = f - 1
 
-      pub count-here : keyAt at ≡ m → d + 1 ≡ length (looksFor first m ks)
-      count-here q = omega (arith, turn _ (stop-here (n - (d + 1)) lo at hi h q))
+    fuel : f ≡ suc less
+    fuel = omega arith
+
+    pub left-right : keyAt at < m → looked f m ks lo at hi ≡ at ∷ looksBetween m ks (at + 1) hi
+    unfolding looksBetween
+    left-right q =
+        ap (λ (g : ℕ). looked g m ks lo at hi) fuel
+        ∙ go-right less lo at hi (omega arith) q
+        ∙ ap (at ∷_) (enough less (hi - (at + 1)) (at + 1) (middle (at + 1) hi) hi (λ v. (omega arith, omega arith)) (omega arith) (omega arith))
+
+    pub left-left : m < keyAt at → looked f m ks lo at hi ≡ at ∷ looksBetween m ks lo at
+    unfolding looksBetween
+    left-left q =
+        ap (λ (g : ℕ). looked g m ks lo at hi) fuel
+        ∙ go-left less lo at hi (omega arith) q
+        ∙ ap (at ∷_) (enough less (at - lo) lo (middle lo at) at (λ v. (omega arith, omega arith)) (omega arith) (omega arith))
+
+    pub left-none : keyAt at ≡ m → looked f m ks lo at hi ≡ at ∷ []
+    left-none q = ap (λ (g : ℕ). looked g m ks lo at hi) fuel ∙ stop-here less lo at hi (omega arith) q

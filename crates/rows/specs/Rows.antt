@@ -10,13 +10,15 @@
 --   looked f m ks lo at hi    == which places between lo and hi a search for the key m compares, where ks are the keys at all places, the next look is at
 --                                place `at`, and f is at least hi - lo: none where no place is left; else `at` and, unless it has the key, those of the part after
 --                                it or of the part before it, in the middle first
+--   Within m l lo hi          == where the rows l rise: those before place lo are below the key m, those from place hi on above it
+--   looksBetween m ks lo hi   == which places between lo and hi a search for the key m compares, in the middle first
 --   firstLook first n         == the place of the first look among n: `first`, or the middle where `first` is no place
 --   looksFor first m ks       == which places a search for the key m compares, the place `first` before all others
 --   opened k n at s           == the words s with the rows from place `at` to place n one row further right, the row `at` itself as it was
 --   closed k n at s           == the words s with the rows after place `at` of n rows one row further left, the last row as it was
 --   inserted n at row s       == the words s with the row `row` before place `at` of n rows; words after the n + 1 rows stay
 --   removed k n at s          == the words s without the row at place `at` of n rows; the last row is zeros, words after the n rows stay
-use Prim.Native.Nat.{ℕ, zero, suc, _+_, _-_, _*_, _/_, _^_}
+use Prim.Native.Nat.{ℕ, zero, suc, _+_, _-_, _*_, _/_, _^_, _≤_, _<_}
 use mathlib.Core.Bool.{cond}
 use mathlib.Core.List.{List, [], _∷_, _++_}
 use lib.ListN.{length, getD, take, drop, replicate}
@@ -61,6 +63,12 @@ looked (suc f) m ks lo at hi =
     (cond (ltb m (getD ks at 0)) (looked f m ks lo (middle lo at) at)
     []))
     []
+
+abbrev pub Within : ℕ → List (List ℕ) → ℕ → ℕ → Type 0
+Within m l lo hi = (lo ≤ rank rowKey m l) × (rank rowKey m l ≤ hi) × (hi ≤ length l) × (hi < length l → m < rowKey (getD l hi []))
+
+unfoldable pub looksBetween : ℕ → List ℕ → ℕ → ℕ → List ℕ
+looksBetween m ks lo hi = looked (hi - lo) m ks lo (middle lo hi) hi
 
 unfoldable pub firstLook : ℕ → ℕ → ℕ
 firstLook first n = cond (ltb first n) first (middle 0 n)

@@ -3,10 +3,10 @@
 // Every table lies in such rows: there is one search here, and one insertion and one removal in `gaps`.
 ghost use mathlib.Core.Path.{_≡_};
 ghost use mathlib.Core.List.{map};
-ghost use Prim.Native.Nat.{_+_, _*_, _≤_};
+ghost use Prim.Native.Nat.{_+_, _-_, _*_, _≤_, _<_};
 ghost use lib.ListN.{length, take, drop};
 ghost use Rattle.keyed.specs.Keyed.{Rising};
-ghost use Rattle.rows.specs.Rows.{rowsIn, rowKey, keyOrder, foundIn, middle, firstLook, looksFor};
+ghost use Rattle.rows.specs.Rows.{rowsIn, rowKey, keyOrder, foundIn, middle, Within, looked, looksBetween, firstLook, looksFor};
 
 // How one row stands to another.
 pub enum Order {
@@ -47,6 +47,14 @@ pub fn compare(s: &[u32], at: usize, key: &[u32]) -> Order
     Order::Equal
 }
 
+// The place in the middle of a range.
+fn halfway(lo: usize, hi: usize) -> usize
+    requires { ⌜ lo ≤ hi ⌝ }
+    ensures { λ r. ⌜ r ≡ middle lo hi ⌝ }
+{
+    lo + (hi - lo) / 2
+}
+
 // The place of the first look among n rows: the one that is proposed, or the middle where that is no row.
 fn first_look(first: usize, n: usize) -> usize
     ensures { λ r. ⌜ r ≡ firstLook first n ⌝ }
@@ -57,26 +65,18 @@ fn first_look(first: usize, n: usize) -> usize
     n / 2
 }
 
-// The place in the middle of a range.
-fn halfway(lo: usize, hi: usize) -> usize
-    requires { ⌜ lo ≤ hi ⌝ }
-    ensures { λ r. ⌜ r ≡ middle lo hi ⌝ }
-{
-    lo + (hi - lo) / 2
-}
-
-// Looks a key up among the first n rows. The first look is at the row `first`, if there is one; then the range that is left is halved at each look.
-// One look at a row decides less, equal or greater. `looks` is how many rows were compared with the key.
-pub fn search(s: &[u32], n: usize, first: usize, key: &[u32]) -> Lookup
-    requires { ⌜ (n * length (now key) ≤ length (now s)) × Rising rowKey 0 (rowsIn (length (now key)) n (now s)) ⌝ }
+// Looks a key up between two places of n rows: those before the range are below the key, those after it above. The first look is at the place `first`; then the range that is
+// left is halved at each look. One look at a row decides less, equal or greater. `looks` counts on from the looks that were made before.
+fn seek(s: &[u32], n: usize, from: usize, to: usize, first: usize, made: u32, key: &[u32]) -> Lookup
+    requires { ⌜ (n * length (now key) ≤ length (now s)) × Rising rowKey 0 (rowsIn (length (now key)) n (now s)) × Within (rowKey (now key)) (rowsIn (length (now key)) n (now s)) from to × (from < to → (from ≤ first) × (first < to)) × (made ≤ 1) ⌝ }
     ensures found { λ r. ⌜ r .found ≡ foundIn rowKey (rowKey (now (key .entry))) (rowsIn (length (now (key .entry))) n (now (s .entry))) ⌝ }
-    ensures looks { λ r. ⌜ r .looks ≡ length (looksFor first (rowKey (now (key .entry))) (map rowKey (rowsIn (length (now (key .entry))) n (now (s .entry))))) ⌝ }
+    ensures looks { λ r. ⌜ r .looks ≡ made + length (looked (to - from) (rowKey (now (key .entry))) (map rowKey (rowsIn (length (now (key .entry))) n (now (s .entry)))) from first to) ⌝ }
 {
     let k = key.len();
-    let mut lo = 0;
-    let mut hi = n;
-    let mut look = first_look(first, n);
-    let mut looks = 0;
+    let mut lo = from;
+    let mut hi = to;
+    let mut look = first;
+    let mut looks = made;
     while lo < hi {
         looks += 1;
         let at = look * k;
@@ -101,4 +101,42 @@ pub fn search(s: &[u32], n: usize, first: usize, key: &[u32]) -> Lookup
         found: Found::Missing(lo),
         looks: looks,
     }
+}
+
+// Looks a key up by halving between two places of n rows, the row in the middle first. `looks` counts on from the looks that were made before.
+pub fn search_between(s: &[u32], n: usize, from: usize, to: usize, made: u32, key: &[u32]) -> Lookup
+    requires { ⌜ (n * length (now key) ≤ length (now s)) × Rising rowKey 0 (rowsIn (length (now key)) n (now s)) × Within (rowKey (now key)) (rowsIn (length (now key)) n (now s)) from to × (made ≤ 1) ⌝ }
+    ensures found { λ r. ⌜ r .found ≡ foundIn rowKey (rowKey (now (key .entry))) (rowsIn (length (now (key .entry))) n (now (s .entry))) ⌝ }
+    ensures looks { λ r. ⌜ r .looks ≡ made + length (looksBetween (rowKey (now (key .entry))) (map rowKey (rowsIn (length (now (key .entry))) n (now (s .entry)))) from to) ⌝ }
+{
+    let first = halfway(from, to);
+    seek(s, n, from, to, first, made, key)
+}
+
+// Goes on from one look among n rows, at the place `at`, with the outcome `order`: the key is there, or it is looked up in what is left on its side. The row at that place is
+// not compared again.
+pub fn after_look(s: &[u32], n: usize, at: usize, order: Order, key: &[u32]) -> Lookup
+    requires { ⌜ (n * length (now key) ≤ length (now s)) × Rising rowKey 0 (rowsIn (length (now key)) n (now s)) × (at < n) × (order ≡ keyOrder (rowKey (take (length (now key)) (drop (at * length (now key)) (now s)))) (rowKey (now key))) ⌝ }
+    ensures found { λ r. ⌜ r .found ≡ foundIn rowKey (rowKey (now (key .entry))) (rowsIn (length (now (key .entry))) n (now (s .entry))) ⌝ }
+    ensures looks { λ r. ⌜ r .looks ≡ length (looksFor at (rowKey (now (key .entry))) (map rowKey (rowsIn (length (now (key .entry))) n (now (s .entry))))) ⌝ }
+{
+    match order {
+        Order::Equal => Lookup {
+            found: Found::At(at),
+            looks: 1,
+        },
+        Order::Less => search_between(s, n, at + 1, n, 1, key),
+        Order::Greater => search_between(s, n, 0, at, 1, key),
+    }
+}
+
+// Looks a key up among the first n rows. The first look is at the row `first`, or in the middle where there is no such row; then the range that is left is halved at each look.
+// `looks` is how many rows were compared with the key, each of them once.
+pub fn search(s: &[u32], n: usize, first: usize, key: &[u32]) -> Lookup
+    requires { ⌜ (n * length (now key) ≤ length (now s)) × Rising rowKey 0 (rowsIn (length (now key)) n (now s)) ⌝ }
+    ensures found { λ r. ⌜ r .found ≡ foundIn rowKey (rowKey (now (key .entry))) (rowsIn (length (now (key .entry))) n (now (s .entry))) ⌝ }
+    ensures looks { λ r. ⌜ r .looks ≡ length (looksFor first (rowKey (now (key .entry))) (map rowKey (rowsIn (length (now (key .entry))) n (now (s .entry))))) ⌝ }
+{
+    let look = first_look(first, n);
+    seek(s, n, 0, n, look, 0, key)
 }
