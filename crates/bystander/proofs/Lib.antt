@@ -1,0 +1,3 @@
+mod Members
+mod Fewer
+pub mod Bystander
