@@ -159,6 +159,22 @@ read-one : (e : Election) → readList (communityOctets e) ≡ record { number =
 unfolding communityOctets readList listFits electionIn communities elections isElection chosen octetsOf
 read-one e = refl
 
+-- and what such a list says, where it was written for an algorithm of five bits and a preference of 16
+module _ (a : ℕ) (ac dp : Bool) (p : ℕ) (h : a ≤ 31) (b : p < 65536) where
+  small : electionUnder a ac dp p .preference < 65536
+  unfolding electionUnder
+  small = cond-by (λ (q : ℕ). q < 65536) (weighsPreference a) (λ _. b) (λ _. omega arith)
+
+  read-again : readCommunity (communityOctets (electionUnder a ac dp p)) ≡ electionUnder a ac dp p
+  unfolding electionUnder
+  read-again =
+      let e = electionUnder a ac dp p in
+      read-octets a ac (e .dp) (e .preference) (omega arith) small ∙ under-again a ac dp p
+
+  pub says-again : electionIn (communityOctets (electionUnder a ac dp p)) ≡ electionUnder a ac dp p
+  unfolding communityOctets electionIn communities elections isElection chosen octetsOf
+  says-again = read-again
+
 -- the octets that the writer stores
 pub image : (a : ℕ) (ac dp : Bool) (p f : ℕ) (u : Election) (w : List ℕ) → u ≡ electionUnder a ac dp p → f ≡ cond (u .dp) 128 0 + cond ac 64 0 → w ≡ octetsOf 2 (u .preference)
     → 6 ∷ 6 ∷ a ∷ f ∷ 0 ∷ 0 ∷ getD w 0 0 ∷ getD w 1 0 ∷ [] ≡ communityOctets (electionUnder a ac dp p)
@@ -198,22 +214,14 @@ module _ (d : List ℕ) (a : ℕ) (ac dp : Bool) (p : ℕ) where
     unfolding communityWritten
     community-written = rw (← number-right)
 
-    small : e .preference < 65536
-    unfolding electionUnder
-    small = cond-by (λ (q : ℕ). q < 65536) (weighsPreference a) (λ _. b) (λ _. omega arith)
-
     reads-back : readList (take 8 (communityOctets e ++ drop 8 d)) ≡ record { number = 0; election = e }
-    unfolding electionUnder
     reads-back =
         ap readList (take-at (communityOctets e) (drop 8 d) 8 (length-community e))
         ∙ read-one e
-        ∙ ap said (read-under ∙ under-again a ac dp p)
+        ∙ ap said (read-again a ac dp p h b)
       where
         said : Election → ListRead
         said x = record { number = 0; election = x }
-
-        read-under : readCommunity (communityOctets e) ≡ electionUnder a ac (e .dp) (e .preference)
-        read-under = read-octets a ac (e .dp) (e .preference) (omega arith) small
 
     pub wrote : (l o : List ℕ) → o ≡ communityOctets e → l ≡ stored d 0 o → Wrote 0 l
     wrote l o w q =

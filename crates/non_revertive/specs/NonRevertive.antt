@@ -12,7 +12,7 @@ use lib.ListN.{length}
 use lib.Dec.{eqb}
 use Rattle.lists.specs.Lists.{all}
 use Rattle.keyed.specs.Keyed.{has}
-use Rattle.address.specs.Address.{addressKey, IsAddress}
+use Rattle.address.specs.Address.{addressKey}
 use Rattle.community.specs.Community.{electionUnder, communityOctets}
 use Rattle.layout.specs.Table.{Entry, entryKey}
 use Rattle.route_fields.specs.Fields.{routeOctets}

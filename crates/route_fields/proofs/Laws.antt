@@ -110,7 +110,7 @@ part-back s r (ipv6 a b c d e) o g p =
     rw (g', p', q, t, u, e, number-octets-small 4 a la, number-octets-small 4 b lb, number-octets-small 4 c lc, number-octets-small 4 d ld)
 
 -- THE WAY BACK: what was written reads as it was meant
-module _ (d e r : List ℕ) (ld : length d ≡ 8) (re : reserved e ≡ false) (za : isZero r ≡ false) (ra : IsAddress r) (wa : Words r) where
+module _ (d e r : List ℕ) (ld : length d ≡ 8) (re : reserved e ≡ false) (ra : IsAddress r) (wa : Words r) where
   abbrev o : List ℕ
   o = routeOctets d e r
 
@@ -146,19 +146,19 @@ module _ (d e r : List ℕ) (ld : length d ≡ 8) (re : reserved e ≡ false) (z
   total-of : routeTotal o ≡ totalOf b
   total-of = ap totalOf bits-of
 
-  address-of : routeAddress o ≡ r
+  pub address-of : routeAddress o ≡ r
   address-of = part-back o r ra wa bits-of (sym (drop-drop 1 20 o) ∙ ap (drop 1) after-esi)
 
-  number-of : routeNumber o ≡ 0
+  number-of : isZero r ≡ false → routeNumber o ≡ 0
   unfolding routeNumber routeOctets
-  number-of =
+  number-of za =
       let l : length o ≡ routeTotal o = length-octets-route ∙ sym total-of in
       let m : getD o 1 0 ≡ routeTotal o - 2 = sym (ap (λ (n : ℕ). n - 2) total-of) in
       sym (refused-none _ (le-ltb (length o) 21 (omega (arith, length-octets-route, total-least b)), (refl, (ap not (ap (λ (n : ℕ). eqb n 32 || eqb n 128) bits-of ∙ bits-known r ra), (rw (eq-not l) (eq-not m), (rw esi-of re, (rw address-of za, tt)))))))
 
-  reads-back : readRoute o ≡ readAs 0 0 d e (familyOf r) (octetsOfAddress r)
+  reads-back : isZero r ≡ false → readRoute o ≡ readAs 0 0 d e (familyOf r) (octetsOfAddress r)
   unfolding readRoute
-  reads-back = rw (eq-eqb (routeNumber o) 0 number-of, distinguisher-of, esi-of, address-of)
+  reads-back za = rw (eq-eqb (routeNumber o) 0 (number-of za), distinguisher-of, esi-of, address-of)
 
   -- WHAT THE WRITER STORES, piece by piece
   module _ (x : List ℕ) (lx : totalOf b ≤ length x) where
@@ -218,11 +218,11 @@ module _ (x d e r : List ℕ) where
             → v ≡ part r → p ≡ stored x 0 (4 ∷ (totalOf (bitsOf r) - 2) ∷ []) → q ≡ stored p 2 d → t ≡ stored q 10 e → u ≡ stored t 20 (bitsOf r ∷ []) → l ≡ stored u 21 v → Wrote 0 l
         unfolding writeRouteNumber routeWritten
         wrote ra wa lx {l = l} hv hp hq ht hu hl =
-            let f : l ≡ routeOctets d e r ++ drop (totalOf (bitsOf r)) x = stored-route d e r ld re za ra wa x lx hv hp hq ht hu hl in
+            let f : l ≡ routeOctets d e r ++ drop (totalOf (bitsOf r)) x = stored-route d e r ld re ra wa x lx hv hp hq ht hu hl in
             let n : 0 ≡ writeRouteNumber d e r (length x) = refused-none _ (eq-not ld, (re, (za, (le-ltb _ _ lx, tt)))) in (
               n,
               (
                 f ∙ rw (← n),
-                λ z. rw (f, take-at (routeOctets d e r) (drop (totalOf (bitsOf r)) x) (totalOf (bitsOf r)) (length-octets-route d e r ld re za ra wa)) (reads-back d e r ld re za ra wa),
+                λ z. rw (f, take-at (routeOctets d e r) (drop (totalOf (bitsOf r)) x) (totalOf (bitsOf r)) (length-octets-route d e r ld re ra wa)) (reads-back d e r ld re ra wa za),
               ),
             )

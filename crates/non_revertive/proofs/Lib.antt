@@ -1,0 +1,6 @@
+mod Members
+mod Losing
+mod Pair
+mod Named
+mod Octets
+pub mod NonRevertive
