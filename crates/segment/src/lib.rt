@@ -17,6 +17,7 @@ use segment_state::SETTINGS;
 pub use segment_state::WORDS;
 use table::Verdict;
 ghost use mathlib.Core.Path.{_≡_};
+ghost use Prim.Native.Nat.{_<_};
 ghost use mathlib.Core.List.{List, []};
 ghost use mathlib.Core.Bool.{true, false};
 ghost use lib.Count.{ones};
@@ -32,6 +33,8 @@ ghost use Rattle.election.specs.Queries.{plain, methodOf, candidatesOf, electWi
 ghost use Rattle.returning.specs.Returning.{returningOf, returningWith};
 ghost use Rattle.demand3.specs.Calls as calls;
 ghost use Rattle.demand3.specs.Demand3.{Demand3, Follows, segmentAfter};
+ghost use Rattle.bystander.specs.Bystander.{Undisturbed};
+ghost use Rattle.non_revertive.specs.NonRevertive.{NonRevertive};
 ghost use Rattle.one_forwarder.specs.OneForwarder.{Once, OneForwarder};
 ghost use Rattle.demand3.specs.Values.{starred, allRight};
 
@@ -74,15 +77,33 @@ pub fn announce(s: &mut [u32], route: &[u8], communities: &[u8]) -> Verdict
     announcing::announce(&mut s[..SETTINGS], route, communities)
 }
 
-// Withdraws an address: 6 for address zero, 9 for one that is not present. The freed place is zero and can be filled again.
+// The same address, read field by field: of what is read it is known that its words are below 2^32, which the promises on withdrawals and returning routers rest on.
+fn read(address: Address) -> Address
+    ensures same { λ r. ⌜ r ≡ address ⌝ }
+    ensures words { λ _. ⌜ (address .w0 < 4294967296) × (address .w1 < 4294967296) × (address .w2 < 4294967296) × (address .w3 < 4294967296) ⌝ }
+{
+    let family = address.family;
+    Address {
+        family: family,
+        w0: address.w0,
+        w1: address.w1,
+        w2: address.w2,
+        w3: address.w3,
+    }
+}
+
+// Withdraws an address: 6 for address zero, 9 for one that is not present. The freed place is zero and can be filled again. Where all routes agree on another algorithm than 0,
+// whoever else is elected stays elected.
 pub fn withdraw(s: &mut [u32], address: Address) -> u8
     requires { ⌜ ValidSegment (now s) ⌝ }
     ensures answer { λ r. ⌜ SegmentTold (withdrawn (segmentIn (now (s .entry)) .table) (addressRow address)) (segmentIn (now (s .entry)) .settings) r 0 (now (s .exit)) ⌝ }
     ensures kept { λ _. ⌜ ValidSegment (now (s .exit)) ⌝ }
     ensures call { λ r. ⌜ calls.Changes (segmentIn (now (s .entry))) (calls.withdraw (addressRow address)) r (segmentIn (now (s .exit))) ⌝ }
     ensures follows { λ r. ⌜ Follows (segmentIn (now (s .entry))) (calls.withdraw (addressRow address)) (calls.changeReply r) (segmentIn (now (s .exit))) ⌝ }
+    ensures bystander { λ _. ⌜ Undisturbed (segmentIn (now (s .entry))) (addressRow address) (segmentIn (now (s .exit))) ⌝ }
 {
-    table::withdraw(&mut s[..SETTINGS], address)
+    let withdrawn = read(address);
+    table::withdraw(&mut s[..SETTINGS], withdrawn)
 }
 
 // Elects the Designated Forwarder for a tag: 10 for tag 0 or 4,294,967,295, 11 for a ready list over 64 rows of five words, 12 where no route is eligible.
@@ -102,18 +123,21 @@ pub fn elect(s: &[u32], tag: u32, ready: &[u32]) -> Answer
     election::elect(&s[..SETTINGS], &s[SETTINGS..], tag, ready)
 }
 
-// What a returning router advertises: 15 for an own algorithm that is not 2 or 3, 6 for address zero. With no range set the answer is document 01's.
+// What a returning router advertises: 15 for an own algorithm that is not 2 or 3, 6 for address zero. With no range set the answer is document 01's. A
+// router that announces what it is told here does not unseat a forwarder whose DP is set.
 pub fn returning(s: &[u32], address: Address, algorithm: u8, preference: u16, dp: bool) -> Sent
     requires { ⌜ ValidSegment (now s) ⌝ }
     ensures answer { λ r. ⌜ r ≡ returningWith (segmentIn (now (s .entry)) .settings) (segmentIn (now (s .entry)) .table .entries) (addressRow address) algorithm preference dp ⌝ }
     ensures no_range { λ r. ⌜ (anyRange (segmentIn (now (s .entry)) .settings) ≡ false → r ≡ returningOf (segmentIn (now (s .entry)) .table .entries) (addressRow address) algorithm preference dp) ⌝ }
     ensures call { λ r. ⌜ calls.replyTo (segmentIn (now (s .entry))) (calls.returning (addressRow address) algorithm preference dp) ≡ calls.returningReply r ⌝ }
     ensures follows { λ r. ⌜ Follows (segmentIn (now (s .entry))) (calls.returning (addressRow address) algorithm preference dp) (calls.returningReply r) (segmentIn (now (s .entry))) ⌝ }
+    ensures non_revertive { λ r. ⌜ (dp ≡ true → NonRevertive (segmentIn (now (s .entry))) (addressRow address) algorithm r) ⌝ }
 {
+    let own = read(address);
     returning::returning(
         &s[..SETTINGS],
         &s[SETTINGS..],
-        address,
+        own,
         algorithm,
         preference,
         dp,
