@@ -1,22 +1,26 @@
 //! The tests of the reference: every value of document 01, the worked examples of RFC 9785,
 //! the slips the document names, the order of every list of checks, lengths at their limits,
-//! addresses of both families side by side, Ethernet A-D routes, elections by flow, and ranges of
-//! tags.
+//! addresses of both families side by side, Ethernet A-D routes, elections by flow, ranges of tags,
+//! and the three statements of M-107 as properties.
 
 mod address;
 mod bench;
+mod bystanders;
 mod circuits;
 mod common;
 mod community;
 mod election;
 mod encode;
 mod esi;
+mod exactly_one;
 mod flows;
 mod hrw;
+mod random;
 mod ranges;
 mod returning;
 mod rfc9785;
 mod route;
 mod slips;
 mod table;
+mod unseated;
 mod values;
