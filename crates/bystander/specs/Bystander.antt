@@ -1,6 +1,6 @@
 -- Losing a bystander disturbs nobody (document 02, M-107). Where all routes agree on an algorithm other than 0 and on AC-DF, a router that is elected stays elected when another
 -- one is withdrawn: for every tag, ready list and query, with numbers and ranges set or not, and in the election over both tables beside the same A-D routes. Of algorithm 0 this
--- is not claimed: it counts the candidates, so of three routers the second is elected for tag 4, and the first when the third is withdrawn.
+-- is not claimed: it counts the candidates, so of three routers the second is elected for tag 1, and the third when the first is withdrawn.
 --   Agreed s            == all routes of the state s agree on an algorithm other than 0, that is, on 1, 2, 3 or a number that is set, and on AC-DF
 --   Undisturbed s a u   == whoever the elections upon the state s name, if it is not the address a, those upon the state u name too, under the same algorithm
 use Prim.Native.Nat.{ℕ}
