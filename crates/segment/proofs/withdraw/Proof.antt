@@ -24,8 +24,10 @@ returns c =
     let b = start .args .s .now in
     let a = addressRow (start .args .address) in
     let w = own .read .ensures .1 in
-    let told = rw (own .read .ensures .0) at (c .before .before .withdraw .ensures) in
-    let r = table-told b (start .pre) (withdraw a) (withdrawn (segmentIn b .table) a) (refl, refl) _ _ _ (told .0) (told .1) in
+    let told = c .before .before .withdraw .ensures in
+    let x = addressRow (own .read .result) in
+    let k = table-told b (start .pre) (withdraw x) (withdrawn (segmentIn b .table) x) (refl, refl) _ _ _ (told .0) (told .1) in
+    let r = rw (own .read .ensures .0) at k in
     let u = undisturbed-in b (start .pre) (λ j. known .slice-known .given j .fits) a (row-address (start .args .address)) (row-words (start .args .address) (w .0) (w .1) (w .2) (w .3)) in
     (r .0, (r .1, (r .2, (r .3, subst (Undisturbed (segmentIn b) a) (sym (r .0 .2)) u))))
 
