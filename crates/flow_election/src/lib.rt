@@ -4,12 +4,11 @@ use answers::Answer;
 ghost use mathlib.Core.Path.{_≡_};
 ghost use mathlib.Core.Bool.{_&&_};
 ghost use lib.Dec.{eqb};
-ghost use lib.Count.{ones};
 ghost use Rattle.layout.specs.Words.{tableIn, Valid};
 ghost use Rattle.settings.specs.Settings.{settingsIn, ValidSettings};
 ghost use Rattle.ready.specs.Ready.{readyIn};
-ghost use Rattle.answers.specs.Answers.{Forwarder};
-ghost use Rattle.election.specs.Queries.{sourceGroup, anySource, isAddressLength, methodOf, candidatesOf, electWith, NoneNamed};
+ghost use Rattle.election.specs.Queries.{sourceGroup, anySource, isAddressLength};
+ghost use Rattle.election.specs.Steps.{Elected};
 
 // Whether an address of a flow may have so many octets.
 fn is_address_length(n: usize) -> bool
@@ -43,10 +42,7 @@ pub fn elect_source_group(
     ready: &[u32],
 ) -> Answer
     requires { ⌜ Valid (now t) × ValidSettings (now settings) ⌝ }
-    ensures answer { λ r. ⌜ r ≡ electWith (settingsIn (now (settings .entry))) (sourceGroup (now (source .entry)) (now (group .entry))) (tableIn (now (t .entry)) .esi) (tableIn (now (t .entry)) .entries) tag (readyIn (now (ready .entry))) ⌝ }
-    ensures counted { λ r. ⌜ r .n ≡ ones (r .candidates) ⌝ }
-    ensures none_named { λ r. ⌜ NoneNamed (settingsIn (now (settings .entry))) (sourceGroup (now (source .entry)) (now (group .entry))) (tableIn (now (t .entry)) .entries) tag (readyIn (now (ready .entry))) r ⌝ }
-    ensures forwarder { λ r. ⌜ (r .number ≡ 0 → Forwarder (methodOf (settingsIn (now (settings .entry))) (sourceGroup (now (source .entry)) (now (group .entry))) (tableIn (now (t .entry)) .esi) (tableIn (now (t .entry)) .entries) tag) (candidatesOf (settingsIn (now (settings .entry))) (tableIn (now (t .entry)) .entries) (readyIn (now (ready .entry)))) tag r) ⌝ }
+    ensures { λ r. ⌜ Elected (settingsIn (now (settings .entry))) (sourceGroup (now (source .entry)) (now (group .entry))) (tableIn (now (t .entry)) .esi) (tableIn (now (t .entry)) .entries) tag (readyIn (now (ready .entry))) r ⌝ }
 {
     let number = settings::source_group(settings);
     let right = are_lengths(source.len(), group.len());
@@ -62,10 +58,7 @@ pub fn elect_any_source(
     ready: &[u32],
 ) -> Answer
     requires { ⌜ Valid (now t) × ValidSettings (now settings) ⌝ }
-    ensures answer { λ r. ⌜ r ≡ electWith (settingsIn (now (settings .entry))) (anySource (now (group .entry))) (tableIn (now (t .entry)) .esi) (tableIn (now (t .entry)) .entries) tag (readyIn (now (ready .entry))) ⌝ }
-    ensures counted { λ r. ⌜ r .n ≡ ones (r .candidates) ⌝ }
-    ensures none_named { λ r. ⌜ NoneNamed (settingsIn (now (settings .entry))) (anySource (now (group .entry))) (tableIn (now (t .entry)) .entries) tag (readyIn (now (ready .entry))) r ⌝ }
-    ensures forwarder { λ r. ⌜ (r .number ≡ 0 → Forwarder (methodOf (settingsIn (now (settings .entry))) (anySource (now (group .entry))) (tableIn (now (t .entry)) .esi) (tableIn (now (t .entry)) .entries) tag) (candidatesOf (settingsIn (now (settings .entry))) (tableIn (now (t .entry)) .entries) (readyIn (now (ready .entry)))) tag r) ⌝ }
+    ensures { λ r. ⌜ Elected (settingsIn (now (settings .entry))) (anySource (now (group .entry))) (tableIn (now (t .entry)) .esi) (tableIn (now (t .entry)) .entries) tag (readyIn (now (ready .entry))) r ⌝ }
 {
     let number = settings::any_source(settings);
     let right = is_address_length(group.len());

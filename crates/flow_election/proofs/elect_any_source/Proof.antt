@@ -12,8 +12,7 @@ returns c =
     let tested = c .before .before in
     let known = tested .before in
     let a = known .before .before .before .before .before .args in
-    let e = c .elect-query .ensures (anySource (now (a .group))) (search (known, sym)) (sym (tested .is-address-length .ensures)) refl in
-    (e .0, (e .1, (e .2, e .3)))
+    c .elect-query .ensures (anySource (now (a .group))) (search (known, sym)) (sym (tested .is-address-length .ensures)) refl
 
 pub elect-any-source-spec : {M : Type 1} → statement M
 elect-any-source-spec = tie.close (tie.spec (λ c κs. search needs) (λ c κs. search needs) (λ c. search needs) (λ c κs. search needs) returns)

@@ -11,8 +11,7 @@ unfolding rightLengths flowOctets numberFor
 returns c =
     let known = c .before .before in
     let a = known .before .before .before .before .before .before .args in
-    let e = c .elect-query .ensures (sourceGroup (now (a .source)) (now (a .group))) (search (known, sym)) (sym (c .before .are-lengths .ensures)) refl in
-    (e .0, (e .1, (e .2, e .3)))
+    c .elect-query .ensures (sourceGroup (now (a .source)) (now (a .group))) (search (known, sym)) (sym (c .before .are-lengths .ensures)) refl
 
 pub elect-source-group-spec : {M : Type 1} → statement M
 elect-source-group-spec = tie.close (tie.spec (λ c κs. search needs) (λ c κs. search needs) (λ c κs. search needs) returns)
