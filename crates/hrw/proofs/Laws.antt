@@ -95,7 +95,7 @@ abbrev pub step : ℕ → ℕ
 step n = 1103515245 * n + 12345
 
 -- m n + k modulo p goes by n modulo p
-linear-mod : (m k p n : ℕ) → (m * n + k) % p ≡ (m * (n % p) + k) % p
+pub linear-mod : (m k p n : ℕ) → (m * n + k) % p ≡ (m * (n % p) + k) % p
 linear-mod m k p n =
     let q = m * (n / p) in
     let r = m * (n % p) in

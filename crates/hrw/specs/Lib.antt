@@ -1,1 +1,2 @@
 pub mod Weight
+pub mod Ties

@@ -4,6 +4,7 @@ ghost use mathlib.Core.List.{_++_};
 ghost use Rattle.crc.specs.Crc.{crcOctet, crcOver, crc32Of};
 ghost use Rattle.octets.specs.Octets.{octetsOf};
 ghost use Rattle.hrw.specs.Weight.{digestOf, flowDigestOf, weightOf};
+ghost use Rattle.hrw.specs.Ties.{TieExactly};
 
 // The CRC register of 32 ones: a CRC starts from it, and is inverted by it at the end.
 const ALL_ONES: u32 = 0xFFFF_FFFF;
@@ -78,7 +79,8 @@ pub fn flow_digest(source: &[u8], group: &[u8], tag: u32, esi: [u8; 10]) -> u32
 
 // The weight of an address under any digest. Only the low 31 bits of what is multiplied second decide the result: with these the product fits.
 pub fn weight(address: u32, digest: u32) -> u32
-    ensures { λ r. ⌜ r ≡ weightOf address digest ⌝ }
+    ensures answer { λ r. ⌜ r ≡ weightOf address digest ⌝ }
+    ensures ties { λ r. ⌜ TieExactly address digest r ⌝ }
 {
     let mixed = (MULTIPLIER * (address as u64) + INCREMENT) ^ (digest as u64);
     ((MULTIPLIER * (mixed % MODULUS) + INCREMENT) % MODULUS) as u32

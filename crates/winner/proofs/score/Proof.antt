@@ -19,7 +19,7 @@ returns : tie.Need-returns
 unfolding scoreOf
 returns c =
     let start = c .before .before .before .before in
-    c .weight .ensures ∙ rw (eq-eqb (start .args .algorithm) 1 (c .before .before .if1 .taken)) (ap (λ (x : ℕ). weightOf x (start .args .digest)) (c .before .low-word-at .ensures) ∙ weightOf-word _ (start .args .digest))
+    c .weight .ensures .0 ∙ rw (eq-eqb (start .args .algorithm) 1 (c .before .before .if1 .taken)) (ap (λ (x : ℕ). weightOf x (start .args .digest)) (c .before .low-word-at .ensures) ∙ weightOf-word _ (start .args .digest))
 
 returns-2 : tie.Need-returns-2
 returns-2 c =
