@@ -79,7 +79,7 @@ module _ (m : Method) (cs : List Entry) (set tag : ℕ) where
       go true = b
       go false = a
 
-  names-by : answerBy m cs set tag .number ≡ 0 → (length cs ≡ 0 → ⊥) × (answerBy m cs set tag ≡ names)
+  pub names-by : answerBy m cs set tag .number ≡ 0 → (length cs ≡ 0 → ⊥) × (answerBy m cs set tag ≡ names)
   unfolding answerBy
   names-by = go (eqb (length cs) 0) refl
     where
@@ -89,7 +89,7 @@ module _ (m : Method) (cs : List Entry) (set tag : ℕ) where
 
 -- THE ELECTED ONE of a list of candidates
 module _ (a tag d : ℕ) where
-  elected-in : (l : List Entry) → (length l ≡ 0 → ⊥) → List·Memᴰ (elected a tag d l) l
+  pub elected-in : (l : List Entry) → (length l ≡ 0 → ⊥) → List·Memᴰ (elected a tag d l) l
   unfolding elected
   elected-in l n = go (eqb a 0) l n
     where
@@ -98,7 +98,7 @@ module _ (a tag d : ℕ) where
       go false [] n = absurd (n refl)
       go false (x ∷ l) n = rw (bestOf-cons (better a d) noEntry x l) (best-in (better a d) x l)
 
-  elected-top : (l : List Entry) → Unique entryKey l → (a ≡ 0 → ⊥) → (x : Entry) → List·Memᴰ x l → better a d x (elected a tag d l) ≡ false
+  pub elected-top : (l : List Entry) → Unique entryKey l → (a ≡ 0 → ⊥) → (x : Entry) → List·Memᴰ x l → better a d x (elected a tag d l) ≡ false
   unfolding elected
   elected-top [] q z x m = absurd (List·Memᴰ·not-nil m)
   elected-top (y ∷ l) q z x m = rw (ne-eqb a 0 z, bestOf-cons (better a d) noEntry y l) (best-top entryKey (better a d) (order-better a d) y l q x m)
@@ -125,7 +125,7 @@ module _ (t : Table) (w : WellFormed t) (ac : Bool) (ready : List (List ℕ)) wh
   length-bs : length bs ≡ length es
   length-bs = length-map es (eligible ac ready)
 
-  by-places : cs ≡ entriesAt es (places set)
+  pub by-places : cs ≡ entriesAt es (places set)
   unfolding candidates candidateSet
   by-places = sym (picked-places bs es noEntry (sym length-bs) (omega (arith, length-bs, w .short)))
 
@@ -142,7 +142,7 @@ module _ (t : Table) (w : WellFormed t) (ac : Bool) (ready : List (List ℕ)) wh
   length-cs : length cs ≡ length (places set)
   length-cs = ap length by-places ∙ length-map (places set) (λ (i : ℕ). getD es i noEntry)
 
-  rising : Rising entryKey 0 cs
+  pub rising : Rising entryKey 0 cs
   rising = subst (λ (l : List Entry). Rising entryKey 0 l) (sym by-places) (places-rising es (w .short) (w .rising) (places set) (places-under set (length es) set-under))
 
   module _ (m : Method) (tag : ℕ) where

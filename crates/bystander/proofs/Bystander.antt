@@ -30,18 +30,18 @@ use Rattle.bystander.proofs.Fewer.{same-elected}
 
 -- WHAT A WITHDRAWAL LEAVES, accepted or refused
 module _ (t : Table) (a : List ℕ) where
-  left-owner : withdrawn t a .table .esi ≡ t .esi
+  pub left-owner : withdrawn t a .table .esi ≡ t .esi
   unfolding withdrawn
   left-owner = cond-by (λ (u : Table). u .esi ≡ t .esi) (eqb (withdrawNumber a (has entryKey (addressKey a) (t .entries))) 0) (λ _. refl) (λ _. refl)
 
-  left-of : (x : Entry) → List·Memᴰ x (withdrawn t a .table .entries) → List·Memᴰ x (t .entries)
+  pub left-of : (x : Entry) → List·Memᴰ x (withdrawn t a .table .entries) → List·Memᴰ x (t .entries)
   unfolding withdrawn
   left-of x =
       cond-by (λ (u : Table). List·Memᴰ x (u .entries) → List·Memᴰ x (t .entries)) (eqb (withdrawNumber a (has entryKey (addressKey a) (t .entries))) 0)
       (λ _ m. removed-of entryKey (addressKey a) (t .entries) m)
       (λ _ m. m)
 
-  left-in : (x : Entry) → List·Memᴰ x (t .entries) → (entryKey x ≡ addressKey a → ⊥) → List·Memᴰ x (withdrawn t a .table .entries)
+  pub left-in : (x : Entry) → List·Memᴰ x (t .entries) → (entryKey x ≡ addressKey a → ⊥) → List·Memᴰ x (withdrawn t a .table .entries)
   unfolding withdrawn
   left-in x m n =
       cond-by (λ (u : Table). List·Memᴰ x (u .entries)) (eqb (withdrawNumber a (has entryKey (addressKey a) (t .entries))) 0)

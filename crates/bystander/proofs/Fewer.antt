@@ -4,12 +4,11 @@ use native.Mathlib.Omega.{arith}
 use mathlib.Core.Path.{_≡_, refl, ap, ap₂, sym, _∙_, subst}
 use mathlib.Core.Bool.{Bool, true, false, cond, _&&_, Bool·beq}
 use mathlib.Core.List.{List, [], _∷_, List·Memᴰ, List·Memᴰ·head, List·Memᴰ·tail, List·Memᴰ·not-nil}
-use mathlib.Core.Logic.{⊎-elim}
 use lib.ListN.{length}
 use lib.Dec.{ltb, eqb}
 use borrow.Author.Tests.{eq-eqb, eqb-true, ltb-false}
 use Rattle.lists.proofs.Bools.{cond-by}
-use Rattle.ranges.proofs.Laws.{both, algorithm-named}
+use Rattle.ranges.proofs.Laws.{both}
 use Rattle.settings.specs.Settings.{Settings, SettingsRight}
 use Rattle.address.specs.Address.{familyOf, addressWords}
 use Rattle.layout.specs.Table.{Entry, Table, WellFormed}
@@ -20,8 +19,8 @@ use Rattle.ready.specs.Ready.{onList, candidates, candidateSet}
 use Rattle.answers.specs.Answers.{refusedAnswer, Method, answerBy, Forwarder}
 use Rattle.answers.specs.declared.Answer.{Answer}
 use Rattle.answers.proofs.Laws.{none-by, numbers-by, forwarder-by}
-use Rattle.election.specs.Queries.{Query, rightLengths, numberFor, agreedOn, plainAlgorithm, methodFor, methodOf, candidatesOf, electWith}
-use Rattle.election.proofs.Laws.{passes}
+use Rattle.election.specs.Queries.{Query, rightLengths, numberFor, agreedOn, methodFor, methodOf, candidatesOf, electWith}
+use Rattle.election.proofs.Laws.{passes, plain-some}
 use Rattle.forwarders.specs.Forwarders.{Names, SameForwarder}
 use Rattle.bystander.proofs.Members.{all-members, member-of-all, candidate-of, candidate-in, eligible-alike}
 
@@ -76,16 +75,9 @@ module _ (s : Settings) where
       rw (c .0, others) (c .1)
 
   -- THE ALGORITHM OF A QUERY is not 0 either
-  plain-some : SettingsRight s → (tag a : ℕ) → (a ≡ 0 → ⊥) → plainAlgorithm s tag a ≡ 0 → ⊥
-  unfolding plainAlgorithm
-  plain-some r tag a n =
-      cond-by (λ (x : ℕ). x ≡ 0 → ⊥) (ltb a 2) (λ _. n) (λ _.
-      cond-by (λ (x : ℕ). x ≡ 0 → ⊥) (ltb 3 a) (λ _ z. omega (arith, z)) (λ _ z.
-      ⊎-elim (λ e. n (sym e ∙ z)) (λ o. ⊎-elim (λ e. omega (arith, e, z)) (λ e. omega (arith, e, z)) o) (algorithm-named (s .ranges) tag a (r .ranges))))
-
   pub method-some : SettingsRight s → (q : Query) (a tag : ℕ) (i : List ℕ) → (a ≡ 0 → ⊥) → methodFor s q a tag i .algorithm ≡ 0 → ⊥
   unfolding methodFor
-  method-some r q a tag i n = cond-by (λ (m : Method). m .algorithm ≡ 0 → ⊥) (agreedOn a (numberFor s q)) (λ _ z. omega (arith, z)) (λ _. plain-some r tag a n)
+  method-some r q a tag i n = cond-by (λ (m : Method). m .algorithm ≡ 0 → ⊥) (agreedOn a (numberFor s q)) (λ _ z. omega (arith, z)) (λ _. plain-some s r tag a n)
 
   -- THE CHECKS that an answer with the number 0 has passed
   pub checks-passed : (q : Query) (i : List ℕ) (l : List Entry) (tag : ℕ) (ready : List (List ℕ)) → electWith s q i l tag ready .number ≡ 0
@@ -109,7 +101,7 @@ unfolding answerBy
 told-by m cs set tag =
     cond-by (λ (r : Answer). r .number ≡ 0 → r .algorithm ≡ m .told) (eqb (length cs) 0) (λ _ h. absurd (omega (arith, h))) (λ _ h. refl)
 
-named-some : (m : Method) (cs : List Entry) (set tag : ℕ) (x : Entry) → List·Memᴰ x cs → answerBy m cs set tag .number ≡ 0
+pub named-some : (m : Method) (cs : List Entry) (set tag : ℕ) (x : Entry) → List·Memᴰ x cs → answerBy m cs set tag .number ≡ 0
 named-some m cs set tag x h =
     numbers-by m cs set tag (λ (n : ℕ). (n ≡ 12 → cs ≡ []) → n ≡ 0)
     (λ _. refl)

@@ -1,3 +1,3 @@
-mod Members
-mod Fewer
+pub mod Members
+pub mod Fewer
 pub mod Bystander

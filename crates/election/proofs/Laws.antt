@@ -4,17 +4,19 @@ use native.Mathlib.Omega.{arith}
 use mathlib.Core.Path.{_≡_, refl, ap, _∙_, sym, subst}
 use mathlib.Core.Bool.{Bool, true, false, cond, not, _&&_}
 use mathlib.Core.List.{List, []}
+use mathlib.Core.Logic.{⊎-elim}
 use lib.ListN.{length, getD}
 use lib.Dec.{ltb, eqb}
 use lib.Count.{ones}
 use borrow.Author.Tests.{lt-ltb, le-ltb, ltb-true}
+use Rattle.lists.proofs.Bools.{cond-by}
 use Rattle.lists.proofs.Numbers.{either}
 use Rattle.layout.specs.Table.{Entry, noEntry, Table, WellFormed}
 use Rattle.places.specs.Places.{places}
 use Rattle.tags.specs.Tags.{reservedTag}
 use Rattle.hrw.specs.Weight.{digestOf, flowDigestOf}
-use Rattle.ranges.proofs.Laws.{algorithm-none}
-use Rattle.settings.specs.Settings.{Settings, noneSet}
+use Rattle.ranges.proofs.Laws.{algorithm-none, algorithm-named}
+use Rattle.settings.specs.Settings.{Settings, SettingsRight, noneSet}
 use Rattle.agreement.specs.Agreement.{inUse, inUseWith}
 use Rattle.agreement.specs.declared.InUse.{InUse}
 use Rattle.agreement.proofs.Laws.{in-use-none, in-use-four}
@@ -160,8 +162,16 @@ module _ (s : Settings) (q : Query) (t : Table) (w : WellFormed t) (tag : ℕ) (
             elects-by (byTag a tag (t .esi)) (method-tag s q (u .algorithm) tag (t .esi) n p b ∙ ap (λ (z : ℕ). byTag z tag (t .esi)) (sym y))
             (answers-named t w (u .«ac_df») ready (byTag a tag (t .esi)) tag c f at z x v)
 
+-- THE ALGORITHM OF A PLAIN QUERY is not 0 where the one in use is not
+pub plain-some : (s : Settings) → SettingsRight s → (tag a : ℕ) → (a ≡ 0 → ⊥) → plainAlgorithm s tag a ≡ 0 → ⊥
+unfolding plainAlgorithm
+plain-some s r tag a n =
+    cond-by (λ (x : ℕ). x ≡ 0 → ⊥) (ltb a 2) (λ _. n) (λ _.
+    cond-by (λ (x : ℕ). x ≡ 0 → ⊥) (ltb 3 a) (λ _ z. omega (arith, z)) (λ _ z.
+    ⊎-elim (λ e. n (sym e ∙ z)) (λ o. ⊎-elim (λ e. omega (arith, e, z)) (λ e. omega (arith, e, z)) o) (algorithm-named (s .ranges) tag a (r .ranges))))
+
 -- DOCUMENT 01'S ELECTION is that of a plain query where none is set
-plain-method : (s : Settings) (a tag : ℕ) (i : List ℕ) → methodFor s plain a tag i ≡ byTag (plainAlgorithm s tag a) tag i
+pub plain-method : (s : Settings) (a tag : ℕ) (i : List ℕ) → methodFor s plain a tag i ≡ byTag (plainAlgorithm s tag a) tag i
 unfolding numberFor agreedOn
 plain-method s a tag i = method-tag s plain a tag i 0 refl refl
 
