@@ -11,13 +11,9 @@ use lib.Dec.{leb, eqb}
 use borrow.Author.Tests.{eqb-true, le-leb, leb-true, leb-false}
 use Rattle.frames.specs.declared.Frame.{Frame}
 use Rattle.frames.specs.declared.Frame.the-variants.{Nothing, Bad, Cut, Whole}
-use Rattle.frames.specs.Frames.{Front, nothing, bad, cut, whole, must, front, located, frameAt}
+use Rattle.frames.specs.Frames.{Front, nothing, bad, cut, whole, must, front, located, frameAt, recordOf}
 
 -- ---- a front against the octets of a record
-
--- the octets of a record of kind k with the payload p
-abbrev pub recordOf : ℕ → List ℕ → List ℕ
-recordOf k p = 0xD5 ∷ 0x4F ∷ k ∷ length p ∷ p
 
 -- a record with octets r after it is a whole record, then r
 pub front-record : (k : ℕ) (p r : List ℕ) → front (recordOf k p ++ r) ≡ whole k p r

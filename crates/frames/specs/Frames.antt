@@ -9,6 +9,7 @@
 --   front s           == what stands at the front of the octets s
 --   located at f      == the answer for a front f that stands at position `at`: a payload starts four octets later
 --   frameAt s at      == the answer for position `at` of the octets s
+--   recordOf k p      == the octets of the record of kind k with the payload p
 use Prim.Native.Nat.{ℕ, _+_}
 use mathlib.Core.Bool.{cond}
 use mathlib.Core.List.{List, [], _∷_}
@@ -41,3 +42,6 @@ located at (whole k p r) = Whole k (at + 4) (length p)
 
 unfoldable pub frameAt : List ℕ → ℕ → Frame
 frameAt s at = located at (front (drop at s))
+
+abbrev pub recordOf : ℕ → List ℕ → List ℕ
+recordOf k p = 0xD5 ∷ 0x4F ∷ k ∷ length p ∷ p

@@ -71,7 +71,7 @@ unfolding bitsOf familyOf
 bits-known r (ipv4 a e) = rw e
 bits-known r (ipv6 a b c d e) = rw e
 
-length-part : (r : List ℕ) → IsAddress r → 21 + length (part r) ≡ totalOf (bitsOf r)
+pub length-part : (r : List ℕ) → IsAddress r → 21 + length (part r) ≡ totalOf (bitsOf r)
 unfolding bitsOf familyOf totalOf octetsOfAddress octetsIn octetsOf
 length-part r (ipv4 a e) = rw e
 length-part r (ipv6 a b c d e) = rw e
@@ -110,7 +110,7 @@ part-back s r (ipv6 a b c d e) o g p =
     rw (g', p', q, t, u, e, number-octets-small 4 a la, number-octets-small 4 b lb, number-octets-small 4 c lc, number-octets-small 4 d ld)
 
 -- THE WAY BACK: what was written reads as it was meant
-module _ (d e r : List ℕ) (ld : length d ≡ 8) (re : reserved e ≡ false) (ra : IsAddress r) (wa : Words r) where
+module _ (d e r : List ℕ) (ld : length d ≡ 8) (re : reserved e ≡ false) (ra : IsAddress r) where
   abbrev o : List ℕ
   o = routeOctets d e r
 
@@ -120,7 +120,7 @@ module _ (d e r : List ℕ) (ld : length d ≡ 8) (re : reserved e ≡ false) (r
   length-ten : length e ≡ 10
   length-ten = length-not-reserved e re
 
-  length-octets-route : length o ≡ totalOf b
+  pub length-octets-route : length o ≡ totalOf b
   unfolding routeOctets
   length-octets-route = simp length-append (omega (arith, ld, length-ten, length-part r ra))
 
@@ -136,51 +136,53 @@ module _ (d e r : List ℕ) (ld : length d ≡ 8) (re : reserved e ≡ false) (r
   after-esi : drop 20 o ≡ b ∷ part r
   after-esi = sym (drop-drop 10 10 o) ∙ ap (drop 10) after-distinguisher ∙ drop-at e (b ∷ part r) 10 length-ten
 
-  esi-of : routeEsi o ≡ e
+  pub esi-of : routeEsi o ≡ e
   unfolding routeEsi
   esi-of = ap (take 10) after-distinguisher ∙ take-at e (b ∷ part r) 10 length-ten
 
-  bits-of : getD o 20 0 ≡ b
+  pub bits-of : getD o 20 0 ≡ b
   bits-of = sym (getD-drop 20 o 0 0) ∙ ap (λ (l : List ℕ). getD l 0 0) after-esi
 
   total-of : routeTotal o ≡ totalOf b
   total-of = ap totalOf bits-of
 
-  pub address-of : routeAddress o ≡ r
-  address-of = part-back o r ra wa bits-of (sym (drop-drop 1 20 o) ∙ ap (drop 1) after-esi)
+  -- whose words have 32 bits
+  module _ (wa : Words r) where
+    pub address-of : routeAddress o ≡ r
+    address-of = part-back o r ra wa bits-of (sym (drop-drop 1 20 o) ∙ ap (drop 1) after-esi)
 
-  number-of : isZero r ≡ false → routeNumber o ≡ 0
-  unfolding routeNumber routeOctets
-  number-of za =
-      let l : length o ≡ routeTotal o = length-octets-route ∙ sym total-of in
-      let m : getD o 1 0 ≡ routeTotal o - 2 = sym (ap (λ (n : ℕ). n - 2) total-of) in
-      sym (refused-none _ (le-ltb (length o) 21 (omega (arith, length-octets-route, total-least b)), (refl, (ap not (ap (λ (n : ℕ). eqb n 32 || eqb n 128) bits-of ∙ bits-known r ra), (rw (eq-not l) (eq-not m), (rw esi-of re, (rw address-of za, tt)))))))
+    pub number-of : isZero r ≡ false → routeNumber o ≡ 0
+    unfolding routeNumber routeOctets
+    number-of za =
+        let l : length o ≡ routeTotal o = length-octets-route ∙ sym total-of in
+        let m : getD o 1 0 ≡ routeTotal o - 2 = sym (ap (λ (n : ℕ). n - 2) total-of) in
+        sym (refused-none _ (le-ltb (length o) 21 (omega (arith, length-octets-route, total-least b)), (refl, (ap not (ap (λ (n : ℕ). eqb n 32 || eqb n 128) bits-of ∙ bits-known r ra), (rw (eq-not l) (eq-not m), (rw esi-of re, (rw address-of za, tt)))))))
 
-  reads-back : isZero r ≡ false → readRoute o ≡ readAs 0 0 d e (familyOf r) (octetsOfAddress r)
-  unfolding readRoute
-  reads-back za = rw (eq-eqb (routeNumber o) 0 (number-of za), distinguisher-of, esi-of, address-of)
+    reads-back : isZero r ≡ false → readRoute o ≡ readAs 0 0 d e (familyOf r) (octetsOfAddress r)
+    unfolding readRoute
+    reads-back za = rw (eq-eqb (routeNumber o) 0 (number-of za), distinguisher-of, esi-of, address-of)
 
-  -- WHAT THE WRITER STORES, piece by piece
-  module _ (x : List ℕ) (lx : totalOf b ≤ length x) where
-    front : stored x 0 o ≡ o ++ drop (totalOf b) x
-    front = stored-front x o (omega (arith, length-octets-route)) ∙ rw length-octets-route
+    -- WHAT THE WRITER STORES, piece by piece
+    module _ (x : List ℕ) (lx : totalOf b ≤ length x) where
+      front : stored x 0 o ≡ o ++ drop (totalOf b) x
+      front = stored-front x o (omega (arith, length-octets-route)) ∙ rw length-octets-route
 
-    abbrev h : List ℕ
-    h = 4 ∷ (totalOf b - 2) ∷ []
+      abbrev h : List ℕ
+      h = 4 ∷ (totalOf b - 2) ∷ []
 
-    joined : stored (stored (stored (stored (stored x 0 h) 2 d) 10 e) 20 (b ∷ [])) 21 (part r) ≡ stored x 0 o
-    unfolding routeOctets
-    joined =
-        let le = length-ten in
-        let lo = length-part r ra in
-        let head : 0 + length (4 ∷ (totalOf b - 2) ∷ d) ≡ 10 = omega arith in
-        let more : 0 + length (4 ∷ (totalOf b - 2) ∷ d ++ e) ≡ 20 = simp length-append (omega arith) in
-        let most : 0 + length (4 ∷ (totalOf b - 2) ∷ (d ++ e) ++ b ∷ []) ≡ 21 = simp length-append (omega arith) in
-        rw (stored-stored x 0 h d 2 refl (omega (arith, total-least b)), stored-stored x 0 (4 ∷ (totalOf b - 2) ∷ d) e 10 head (omega (arith, total-least b)), stored-stored x 0 (4 ∷ (totalOf b - 2) ∷ d ++ e) (b ∷ []) 20 more (omega (arith, total-least b)), stored-stored x 0 (4 ∷ (totalOf b - 2) ∷ (d ++ e) ++ b ∷ []) (part r) 21 most (omega arith))
-        (ap (λ (l : List ℕ). stored x 0 (4 ∷ (totalOf b - 2) ∷ l)) (append-assoc (d ++ e) (b ∷ []) (part r) ∙ append-assoc d e (b ∷ part r)))
+      joined : stored (stored (stored (stored (stored x 0 h) 2 d) 10 e) 20 (b ∷ [])) 21 (part r) ≡ stored x 0 o
+      unfolding routeOctets
+      joined =
+          let le = length-ten in
+          let lo = length-part r ra in
+          let head : 0 + length (4 ∷ (totalOf b - 2) ∷ d) ≡ 10 = omega arith in
+          let more : 0 + length (4 ∷ (totalOf b - 2) ∷ d ++ e) ≡ 20 = simp length-append (omega arith) in
+          let most : 0 + length (4 ∷ (totalOf b - 2) ∷ (d ++ e) ++ b ∷ []) ≡ 21 = simp length-append (omega arith) in
+          rw (stored-stored x 0 h d 2 refl (omega (arith, total-least b)), stored-stored x 0 (4 ∷ (totalOf b - 2) ∷ d) e 10 head (omega (arith, total-least b)), stored-stored x 0 (4 ∷ (totalOf b - 2) ∷ d ++ e) (b ∷ []) 20 more (omega (arith, total-least b)), stored-stored x 0 (4 ∷ (totalOf b - 2) ∷ (d ++ e) ++ b ∷ []) (part r) 21 most (omega arith))
+          (ap (λ (l : List ℕ). stored x 0 (4 ∷ (totalOf b - 2) ∷ l)) (append-assoc (d ++ e) (b ∷ []) (part r) ∙ append-assoc d e (b ∷ part r)))
 
-    pub stored-route : {v p q t u l : List ℕ} → v ≡ part r → p ≡ stored x 0 h → q ≡ stored p 2 d → t ≡ stored q 10 e → u ≡ stored t 20 (b ∷ []) → l ≡ stored u 21 v → l ≡ o ++ drop (totalOf b) x
-    stored-route hv hp hq ht hu hl = hl ∙ rw (hv, hu, ht, hq, hp, joined) front
+      pub stored-route : {v p q t u l : List ℕ} → v ≡ part r → p ≡ stored x 0 h → q ≡ stored p 2 d → t ≡ stored q 10 e → u ≡ stored t 20 (b ∷ []) → l ≡ stored u 21 v → l ≡ o ++ drop (totalOf b) x
+      stored-route hv hp hq ht hu hl = hl ∙ rw (hv, hu, ht, hq, hp, joined) front
 
 -- WHAT THE WRITER LEAVES
 module _ (x d e r : List ℕ) where
@@ -223,6 +225,6 @@ module _ (x d e r : List ℕ) where
               n,
               (
                 f ∙ rw (← n),
-                λ z. rw (f, take-at (routeOctets d e r) (drop (totalOf (bitsOf r)) x) (totalOf (bitsOf r)) (length-octets-route d e r ld re ra wa)) (reads-back d e r ld re ra wa za),
+                λ z. rw (f, take-at (routeOctets d e r) (drop (totalOf (bitsOf r)) x) (totalOf (bitsOf r)) (length-octets-route d e r ld re ra)) (reads-back d e r ld re ra wa za),
               ),
             )

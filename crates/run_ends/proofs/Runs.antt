@@ -53,7 +53,7 @@ runFor-ended zero b s h = refl
 runFor-ended (suc n) b s h = rw h
 
 -- a whole record has at least four octets
-whole-shorter : (s : List ℕ) {k : ℕ} {p r : List ℕ} → front s ≡ whole k p r → length r + 4 ≤ length s
+pub whole-shorter : (s : List ℕ) {k : ℕ} {p r : List ℕ} → front s ≡ whole k p r → length r + 4 ≤ length s
 whole-shorter s {k} {p} {r} e = omega (arith, ap length (whole-record s e), length-append p r)
 
 before-same : (b : Bench) (go ho : Bench → List ℕ → List ℕ) (f : Front)
