@@ -36,7 +36,7 @@ announce-requires c κs =
     let told = c .before .before in
     let judged = told .before .before in
     let s = start judged in
-    (s .pre .0, has judged Announcement (told .enum-told .given .1), s .pre .2)
+    (s .pre .0, has judged Announcement (told .enum-told2 .given .1), s .pre .2)
 
 withdraw-requires : tie.Need-withdraw-requires
 withdraw-requires c κs =
@@ -57,35 +57,44 @@ unfolding turnOf
 returns c =
     let called = c .before .before .before .before in
     let told = called .before .before .before in
-    stepped-as (called .announce .ensures) (turn (told .before .before) Announcement (told .enum-told .given .1))
+    stepped-as (called .begin .ensures) (turn (told .before .before) Text (told .enum-told .given .1))
 
 returns-2 : tie.Need-returns-2
 unfolding turnOf
 returns-2 c =
     let called = c .before .before .before .before in
-    let told = called .before .before .before .before in
-    stepped-as (called .withdraw .ensures) (turn (told .before .before) (Withdrawal _) (told .judged .given .1))
+    let told = called .before .before .before in
+    stepped-as (called .announce .ensures) (turn (told .before .before) Announcement (told .enum-told2 .given .1))
 
 returns-3 : tie.Need-returns-3
 unfolding turnOf
 returns-3 c =
-    let called = c .before .before in
+    let called = c .before .before .before .before in
     let told = called .before .before .before .before in
-    stepped-as (called .query .ensures) (turn (told .before .before) (Query _) (told .judged2 .given .1))
+    stepped-as (called .withdraw .ensures) (turn (told .before .before) (Withdrawal _) (told .judged .given .1))
 
 returns-4 : tie.Need-returns-4
 unfolding turnOf
 returns-4 c =
     let called = c .before .before in
+    let told = called .before .before .before .before in
+    stepped-as (called .query .ensures) (turn (told .before .before) (Query _) (told .judged2 .given .1))
+
+returns-5 : tie.Need-returns-5
+unfolding turnOf
+returns-5 c =
+    let called = c .before .before in
     let told = called .before .before in
     let judged = told .before .before in
     let s = start judged in
-    stepped-as (called .refuse .ensures (s .args .t .now) (s .pre .2)) (turn judged Bad (told .enum-told2 .given .1))
+    stepped-as (called .refuse .ensures (s .args .t .now) (s .pre .2)) (turn judged Bad (told .enum-told3 .given .1))
 
 pub judged-turn-spec : {M : Type 1} → statement M
 judged-turn-spec =
     tie.close
     (tie.spec
+    (λ c κs. search needs)
+    (λ c. search needs)
     (λ c κs. search needs)
     (λ c. search needs)
     announce-requires
@@ -105,4 +114,7 @@ judged-turn-spec =
     (λ c. search needs)
     returns-3
     (λ c. search needs)
-    returns-4)
+    (λ c. search needs)
+    returns-4
+    (λ c. search needs)
+    returns-5)
