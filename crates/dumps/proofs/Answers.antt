@@ -67,7 +67,7 @@ module _ (a : List ℕ) (s t r : RefT (List ℕ)) (z : isZero a ≡ false) (p q 
 
   pub second-broken : q .number ≡ 16 → r .now ≡ [] → Answered a s t 16 r
   unfolding lastNumber
-  second-broken h w = refused a s t 16 r (refused-at 1 _ (z, tt) (rw (broken-second, eq-eqb _ _ h) (or-true _))) (λ n. omega arith) w
+  second-broken h w = refused a s t 16 r (refused-at 1 _ (z, tt) (rw (broken-second, eq-eqb _ _ h) (or-true (isBroken (recordsOf (s .now)))))) (λ n. omega arith) w
 
   module _ (g : p .number ≡ 16 → ⊥) (h : q .number ≡ 16 → ⊥) where
     whole-both : (isBroken (recordsOf (s .now)) || isBroken (recordsOf (t .now))) ≡ false

@@ -5,7 +5,7 @@ use mathlib.Core.Path.{_≡_, refl, ap, _∙_, sym, subst}
 use mathlib.Core.Bool.{Bool, true, false, cond, _&&_, and-eq-true-iff}
 use mathlib.Core.List.{List, [], _∷_, _++_}
 use lib.ListN.{length, take, drop, length-append, length-drop}
-use lib.Seq.{take-append-seam, drop-append-seam, drop-drop}
+use lib.Seq.{take-at, drop-at, drop-drop}
 use lib.Dec.{eqb}
 use borrow.Author.Tests.{eqb-true, eq-eqb, ne-eqb}
 use Rattle.lists.specs.Lists.{Every}
@@ -36,13 +36,13 @@ each-led P e (records l) h w = (h, w)
 stands-whole : (s : List ℕ) (at k : ℕ) (p r : List ℕ) → drop at s ≡ recordOf k p ++ r → Stands s (record { at = at; kind = k; payload = p })
 stands-whole s at k p r e = record {
   fits = omega (arith, ap length e, length-append p r, length-drop at s);
-  octets = ap (take (4 + length p)) e ∙ take-append-seam (recordOf k p) r;
+  octets = ap (take (4 + length p)) e ∙ take-at (recordOf k p) r (4 + length p) (omega arith);
 }
 
 after-whole : (s : List ℕ) (at k : ℕ) (p r : List ℕ) → drop at s ≡ recordOf k p ++ r → drop (at + 4 + length p) s ≡ r
 after-whole s at k p r e =
     let n : at + 4 + length p ≡ at + (4 + length p) = omega arith in
-    rw n (sym (drop-drop (4 + length p) at s) ∙ ap (drop (4 + length p)) e ∙ drop-append-seam (recordOf k p) r)
+    rw n (sym (drop-drop (4 + length p) at s) ∙ ap (drop (4 + length p)) e ∙ drop-at (recordOf k p) r (4 + length p) (omega arith))
 
 opened-stand : (s : List ℕ) (at : ℕ) (go : ℕ → List ℕ → Dump) → ((n : ℕ) → EachOf (Stands s) (go n (drop n s)))
     → (f : Front) → front (drop at s) ≡ f → EachOf (Stands s) (opened at f go)

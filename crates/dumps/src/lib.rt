@@ -7,6 +7,7 @@ use judgement::Judged;
 use refusals::ADDRESS_ZERO;
 use refusals::NOT_PRESENT;
 ghost use mathlib.Core.Path.{_≡_};
+ghost use mathlib.Core.List.{[], _∷_};
 ghost use Prim.Native.Nat.{_≤_};
 ghost use lib.ListN.{length, getD};
 ghost use Rattle.octets.specs.Octets.{sameNumbers};
@@ -34,6 +35,22 @@ enum Read {
     Counted(usize),
 }
 
+// Whether two addresses have the same four words.
+fn same_words(a: Address, b: Address) -> bool
+    ensures { λ r. ⌜ r ≡ sameNumbers (a .w0 ∷ a .w1 ∷ a .w2 ∷ a .w3 ∷ []) (b .w0 ∷ b .w1 ∷ b .w2 ∷ b .w3 ∷ []) ⌝ }
+{
+    if a.w0 != b.w0 {
+        return false;
+    }
+    if a.w1 != b.w1 {
+        return false;
+    }
+    if a.w2 != b.w2 {
+        return false;
+    }
+    a.w3 == b.w3
+}
+
 // Whether two addresses are the same.
 fn same(a: Address, b: Address) -> bool
     ensures { λ r. ⌜ r ≡ sameNumbers (addressRow a) (addressRow b) ⌝ }
@@ -47,7 +64,7 @@ fn same(a: Address, b: Address) -> bool
         },
         Family::V6 => match g {
             Family::V4 => false,
-            Family::V6 => a.w0 == b.w0 && a.w1 == b.w1 && a.w2 == b.w2 && a.w3 == b.w3,
+            Family::V6 => same_words(a, b),
         },
     }
 }
