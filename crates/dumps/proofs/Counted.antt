@@ -1,18 +1,18 @@
 -- Which records count for an address: the originator in the payload of an announcement, and what a record is to the search. Assumes nothing.
-use Prim.Native.Nat.{ℕ, _+_, _≤_}
+use Prim.Native.Nat.{ℕ, suc, _+_, _≤_}
 use native.Mathlib.Omega.{arith}
 use mathlib.Core.Path.{_≡_, refl, ap, _∙_, sym}
-use mathlib.Core.Bool.{Bool, true, false, cond, _&&_, and-false, and-true}
-use mathlib.Core.List.{List}
-use lib.ListN.{length, getD, take, drop}
-use lib.Seq.{length-take-le, getD-take, take-add, drop-at, drop-drop}
+use mathlib.Core.Bool.{Bool, true, false, _&&_, and-false, and-true}
+use mathlib.Core.List.{List, [], _∷_}
+use lib.ListN.{length, getD, take}
+use lib.Seq.{length-take-le, getD-take}
 use lib.Dec.{eqb}
-use borrow.Author.Tests.{eqb-true, eqb-false}
+use borrow.Author.Tests.{eq-eqb, ne-eqb}
 use Rattle.octets.specs.Octets.{numberOf, wordAt, sameNumbers}
+use Rattle.octets.proofs.Laws.{take-elements, word-elements}
 use Rattle.address.specs.Address.{addressRow}
 use Rattle.route.specs.Route.{totalOf, ipv4In, ipv6In, routeAddress, routeNumber}
 use Rattle.route.proofs.Laws.{total-least, originator-six, originator-four}
-use Rattle.payloads.specs.Payloads.{sizeOf, addressOf}
 use Rattle.judgement.specs.Judgement.{judgedOf, isBad}
 use Rattle.judgement.specs.declared.Judged.{Judged}
 use Rattle.judgement.specs.declared.Judged.the-variants.{Announcement, Bad}
@@ -20,46 +20,38 @@ use Rattle.dumps.specs.Dumps.{routeIn, announces, counts}
 use Rattle.dumps.specs.Reads.{recordRead}
 use Rattle.dumps.specs.declared.Read.the-variants.{Broken, Passed, Counted}
 
--- ---- the originator stands at octet 21 of the payload, as long as its family says
+-- ---- the originator that an announcement names, word by word
 
-size-total : (t : Bool) → 21 + cond t 16 4 ≡ cond t 37 25
-size-total true = refl
-size-total false = refl
+-- a word of the route octets is a word of the payload
+word-in : (p : List ℕ) (n i : ℕ) → i + 4 ≤ n → n ≤ length p → wordAt i (take n p) ≡ wordAt i p
+word-in p n i h l =
+    let m : length (take n p) ≡ n = length-take-le n p l in
+    ap numberOf (take-elements 4 i (take n p) (omega arith)
+    ∙ rw (getD-take n p i 0 (omega arith), getD-take n p (suc i) 0 (omega arith), getD-take n p (suc (suc i)) 0 (omega arith), getD-take n p (suc (suc (suc i))) 0 (omega arith))
+      (sym (take-elements 4 i p (omega arith))))
 
-pub originator-fits : (p : List ℕ) → totalOf (getD p 20 0) ≤ length p → 21 + sizeOf (eqb (getD p 20 0) 128) ≤ length p
-unfolding totalOf sizeOf
-originator-fits p h = omega (arith, h, size-total (eqb (getD p 20 0) 128))
+module _ (p : List ℕ) (h : totalOf (getD p 20 0) ≤ length p) where
+  pub total-25 : 25 ≤ length p
+  total-25 = omega (arith, h, total-least (getD p 20 0))
 
-from-21 : (p : List ℕ) (n : ℕ) → 21 ≤ length p → take n (drop 21 p) ≡ drop 21 (take (21 + n) p)
-from-21 p n h = sym (ap (drop 21) (take-add 21 n p) ∙ drop-at (take 21 p) (take n (drop 21 p)) 21 (length-take-le 21 p h))
+  pub named-ipv4 : (getD p 20 0 ≡ 128 → ⊥) → routeAddress (routeIn p) ≡ 4 ∷ wordAt 21 p ∷ 0 ∷ 0 ∷ 0 ∷ []
+  unfolding totalOf routeAddress addressRow ipv4In
+  named-ipv4 n =
+      let b : getD (take 25 p) 20 0 ≡ 128 → ⊥ = λ z. n (sym (getD-take 25 p 20 0 (omega arith)) ∙ z) in
+      rw (ne-eqb (getD p 20 0) 128 n) (sym (ap addressRow (originator-four (take 25 p) b)) ∙ rw (word-in p 25 21 (omega arith) total-25))
 
-word-from-21 : (s : List ℕ) (i : ℕ) → wordAt i (drop 21 s) ≡ wordAt (21 + i) s
-word-from-21 s i = ap (λ (l : List ℕ). numberOf (take 4 l)) (drop-drop i 21 s)
+  module _ (e : getD p 20 0 ≡ 128) where
+    pub total-37 : 37 ≤ length p
+    unfolding totalOf
+    total-37 = rw (eq-eqb (getD p 20 0) 128 e) at h
 
-six : (p : List ℕ) → getD p 20 0 ≡ 128 → 37 ≤ length p → addressOf true (take 16 (drop 21 p)) ≡ routeAddress (take 37 p)
-unfolding addressOf routeAddress addressRow ipv6In
-six p e h =
-    let s = take 37 p in
-    let b : getD s 20 0 ≡ 128 = getD-take 37 p 20 0 (omega arith) ∙ e in
-    ap (addressOf true) (from-21 p 16 (omega arith))
-    ∙ rw (word-from-21 s 0, word-from-21 s 4, word-from-21 s 8, word-from-21 s 12) (ap addressRow (originator-six s b))
-
-four : (p : List ℕ) → (getD p 20 0 ≡ 128 → ⊥) → 25 ≤ length p → addressOf false (take 4 (drop 21 p)) ≡ routeAddress (take 25 p)
-unfolding addressOf routeAddress addressRow ipv4In
-four p e h =
-    let s = take 25 p in
-    let b : getD s 20 0 ≡ 128 → ⊥ = λ z. e (sym (getD-take 25 p 20 0 (omega arith)) ∙ z) in
-    ap (addressOf false) (from-21 p 4 (omega arith)) ∙ rw (word-from-21 s 0) (ap addressRow (originator-four s b))
-
-pub originator-in : (p : List ℕ) → totalOf (getD p 20 0) ≤ length p
-    → addressOf (eqb (getD p 20 0) 128) (take (sizeOf (eqb (getD p 20 0) 128)) (drop 21 p)) ≡ routeAddress (routeIn p)
-unfolding totalOf sizeOf
-originator-in p = go (eqb (getD p 20 0) 128) (eqb-true (getD p 20 0) 128) (eqb-false (getD p 20 0) 128)
-  where
-    go : (t : Bool) → (t ≡ true → getD p 20 0 ≡ 128) → (t ≡ false → getD p 20 0 ≡ 128 → ⊥) → cond t 37 25 ≤ length p
-        → addressOf t (take (cond t 16 4) (drop 21 p)) ≡ routeAddress (take (cond t 37 25) p)
-    go true e n h = six p (e refl) h
-    go false e n h = four p (n refl) h
+    pub named-ipv6 : routeAddress (routeIn p) ≡ 6 ∷ wordAt 21 p ∷ wordAt 25 p ∷ wordAt 29 p ∷ wordAt 33 p ∷ []
+    unfolding totalOf routeAddress addressRow ipv6In
+    named-ipv6 =
+        let b : getD (take 37 p) 20 0 ≡ 128 = getD-take 37 p 20 0 (omega arith) ∙ e in
+        let l = total-37 in
+        rw (eq-eqb (getD p 20 0) 128 e)
+        (sym (ap addressRow (originator-six (take 37 p) b)) ∙ rw (word-in p 37 21 (omega arith) l, word-in p 37 25 (omega arith) l, word-in p 37 29 (omega arith) l, word-in p 37 33 (omega arith) l))
 
 -- ---- whether a payload announces the address a, with x the originator that it names
 

@@ -12,8 +12,8 @@ ghost use Prim.Native.Nat.{_≤_};
 ghost use lib.ListN.{length, getD};
 ghost use Rattle.octets.specs.Octets.{sameNumbers};
 ghost use Rattle.address.specs.Address.{addressRow};
-ghost use Rattle.route.specs.Route.{totalOf};
-ghost use Rattle.dumps.specs.Dumps.{announces, lastIn};
+ghost use Rattle.route.specs.Route.{totalOf, routeAddress};
+ghost use Rattle.dumps.specs.Dumps.{routeIn, announces, lastIn};
 ghost use Rattle.dumps.specs.Reads.{recordRead, readAt};
 ghost use Rattle.dumps.specs.Answers.{Answered};
 
@@ -35,37 +35,46 @@ enum Read {
     Counted(usize),
 }
 
-// Whether two addresses have the same four words.
-fn same_words(a: Address, b: Address) -> bool
-    ensures { λ r. ⌜ r ≡ sameNumbers (a .w0 ∷ a .w1 ∷ a .w2 ∷ a .w3 ∷ []) (b .w0 ∷ b .w1 ∷ b .w2 ∷ b .w3 ∷ []) ⌝ }
+// Whether the originator in the payload of an announcement is the IPv4 address of a word.
+fn names_ipv4(payload: &[u8], word: u32) -> bool
+    requires { ⌜ totalOf (getD (now payload) 20 0) ≤ length (now payload) ⌝ }
+    ensures { λ r. ⌜ r ≡ sameNumbers (routeAddress (routeIn (now (payload .entry)))) (4 ∷ word ∷ 0 ∷ 0 ∷ 0 ∷ []) ⌝ }
 {
-    if a.w0 != b.w0 {
+    if payload[20] == 128 {
         return false;
     }
-    if a.w1 != b.w1 {
-        return false;
-    }
-    if a.w2 != b.w2 {
-        return false;
-    }
-    a.w3 == b.w3
+    payloads::word_at(payload, 21) == word
 }
 
-// Whether two addresses are the same.
-fn same(a: Address, b: Address) -> bool
-    ensures { λ r. ⌜ r ≡ sameNumbers (addressRow a) (addressRow b) ⌝ }
+// Whether it is the IPv6 address of the words of `a`.
+fn names_ipv6(payload: &[u8], a: Address) -> bool
+    requires { ⌜ totalOf (getD (now payload) 20 0) ≤ length (now payload) ⌝ }
+    ensures { λ r. ⌜ r ≡ sameNumbers (routeAddress (routeIn (now (payload .entry)))) (6 ∷ a .w0 ∷ a .w1 ∷ a .w2 ∷ a .w3 ∷ []) ⌝ }
 {
-    let f = a.family;
-    let g = b.family;
-    match f {
-        Family::V4 => match g {
-            Family::V4 => a.w0 == b.w0,
-            Family::V6 => false,
-        },
-        Family::V6 => match g {
-            Family::V4 => false,
-            Family::V6 => same_words(a, b),
-        },
+    if payload[20] != 128 {
+        return false;
+    }
+    if payloads::word_at(payload, 33) != a.w3 {
+        return false;
+    }
+    if payloads::word_at(payload, 29) != a.w2 {
+        return false;
+    }
+    if payloads::word_at(payload, 25) != a.w1 {
+        return false;
+    }
+    payloads::word_at(payload, 21) == a.w0
+}
+
+// Whether it is an address of either family.
+fn names(payload: &[u8], address: Address) -> bool
+    requires { ⌜ totalOf (getD (now payload) 20 0) ≤ length (now payload) ⌝ }
+    ensures { λ r. ⌜ r ≡ sameNumbers (routeAddress (routeIn (now (payload .entry)))) (addressRow address) ⌝ }
+{
+    let family = address.family;
+    match family {
+        Family::V4 => names_ipv4(payload, address.w0),
+        Family::V6 => names_ipv6(payload, address),
     }
 }
 
@@ -74,12 +83,10 @@ fn is_of(payload: &[u8], address: Address) -> bool
     requires { ⌜ totalOf (getD (now payload) 20 0) ≤ length (now payload) ⌝ }
     ensures { λ r. ⌜ r ≡ announces (addressRow address) (now (payload .entry)) ⌝ }
 {
-    let bits = payload[20];
-    let originator = payloads::address_at(payload, 21, bits == 128);
-    if !same(originator, address) {
+    if !names(payload, address) {
         return false;
     }
-    let n = route::total(bits);
+    let n = route::total(payload[20]);
     let checked = route::check(&payload[..n]);
     route::number(checked) == 0
 }
