@@ -28,7 +28,7 @@ word-in p n i h l =
     let m : length (take n p) ≡ n = length-take-le n p l in
     ap numberOf (take-elements 4 i (take n p) (omega arith)
     ∙ rw (getD-take n p i 0 (omega arith), getD-take n p (suc i) 0 (omega arith), getD-take n p (suc (suc i)) 0 (omega arith), getD-take n p (suc (suc (suc i))) 0 (omega arith))
-      (sym (take-elements 4 i p (omega arith))))
+    (sym (take-elements 4 i p (omega arith))))
 
 module _ (p : List ℕ) (h : totalOf (getD p 20 0) ≤ length p) where
   pub total-25 : 25 ≤ length p

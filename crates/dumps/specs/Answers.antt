@@ -16,7 +16,7 @@ use denote.Ref.{RefT}
 use Rattle.lists.specs.Lists.{Every}
 use Rattle.lists.specs.Checks.{firstRefusal}
 use Rattle.address.specs.Address.{isZero}
-use Rattle.refusals.specs.Refusals.{addressZero, notPresent}
+use Rattle.refusals.specs.Refusals.{addressZero, notPresent, badRecord}
 use Rattle.dumps.specs.Dumps.{BenchRecord, Dump, broken, records, recordsOf, announces, counts, lastIn}
 
 -- THE NUMBER
@@ -32,7 +32,7 @@ unfoldable pub lastNumber : List ℕ → List ℕ → List ℕ → ℕ
 lastNumber a s t =
     firstRefusal (
     (isZero a, addressZero)
-    ∷ (isBroken (recordsOf s) || isBroken (recordsOf t), 16)
+    ∷ (isBroken (recordsOf s) || isBroken (recordsOf t), badRecord)
     ∷ (not (holds a s) && not (holds a t), notPresent)
     ∷ []
     )

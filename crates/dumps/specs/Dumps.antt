@@ -21,6 +21,7 @@ use mathlib.Core.List.{List, [], _∷_}
 use lib.ListN.{length, getD, take}
 use lib.Dec.{eqb}
 use Rattle.octets.specs.Octets.{sameNumbers}
+use Rattle.refusals.specs.Refusals.{notPresent, badRecord}
 use Rattle.route.specs.Route.{totalOf, routeNumber, routeAddress}
 use Rattle.frames.specs.Frames.{Front, nothing, bad, cut, whole, front}
 use Rattle.judgement.specs.Judgement.{judgedOf, isBad}
@@ -76,8 +77,8 @@ lastAmong a [] b = b
 lastAmong a (e ∷ l) b = lastAmong a l (cond (counts a (e .kind) (e .payload)) (standing e) b)
 
 unfoldable pub lastOf : List ℕ → Dump → Place → Place
-lastOf a broken b = record { number = 16; start = 0; len = 0 }
+lastOf a broken b = record { number = badRecord; start = 0; len = 0 }
 lastOf a (records l) b = lastAmong a l b
 
 unfoldable pub lastIn : List ℕ → List ℕ → Place
-lastIn a s = lastOf a (recordsOf s) (record { number = 9; start = 0; len = 0 })
+lastIn a s = lastOf a (recordsOf s) (record { number = notPresent; start = 0; len = 0 })

@@ -5,6 +5,7 @@ use address::Family;
 use frames::Frame;
 use judgement::Judged;
 use refusals::ADDRESS_ZERO;
+use refusals::BAD_RECORD;
 use refusals::NOT_PRESENT;
 ghost use mathlib.Core.Path.{_≡_};
 ghost use mathlib.Core.List.{[], _∷_};
@@ -17,14 +18,11 @@ ghost use Rattle.dumps.specs.Dumps.{routeIn, announces, lastIn};
 ghost use Rattle.dumps.specs.Reads.{recordRead, readAt};
 ghost use Rattle.dumps.specs.Answers.{Answered};
 
-// A dump that breaks the record rules.
-const BAD_RECORD: u8 = 16;
-
-// Where a record of a dump stands: with the number 0 its octets, mark and length included, are `len` from `start` on. With 9 there is none, and with 16 the dump is none.
-pub struct Place {
-    pub number: u8,
-    pub start: usize,
-    pub len: usize,
+// Where a record of a dump stands: with the number 0 its octets, mark and length included, are `len` from `start` on. With 9 there is no such record, and with 16 the dump breaks the rules.
+struct Place {
+    number: u8,
+    start: usize,
+    len: usize,
 }
 
 // What stands at a position of a dump: its end, an octet that breaks the rules, or a record, passed over or counted, with the position after it.
@@ -127,7 +125,7 @@ fn read_at(s: &[u8], at: usize, address: Address) -> Read
 }
 
 // Where the last record of a dump stands that is an announcement and counts for an address: 16 if the dump breaks the record rules, 9 if there is no such record.
-pub fn last(s: &[u8], address: Address) -> Place
+fn last(s: &[u8], address: Address) -> Place
     ensures { λ r. ⌜ r ≡ lastIn (addressRow address) (now (s .entry)) ⌝ }
 {
     let mut number = NOT_PRESENT;
