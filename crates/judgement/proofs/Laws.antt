@@ -1,4 +1,4 @@
--- What a record after the first is, by its kind and its length. Assumes nothing.
+-- What a record is, by its place, its kind and its length. Assumes nothing.
 use Prim.Native.Nat.{ℕ, _-_, _%_, _≤_, _<_}
 use native.Mathlib.Omega.{arith}
 use mathlib.Core.Path.{_≡_, ap, _∙_, sym}
@@ -11,14 +11,15 @@ use Rattle.lists.proofs.Bools.{cond-by}
 use Rattle.route.specs.Route.{totalOf}
 use Rattle.route.proofs.Laws.{total-least}
 use Rattle.payloads.specs.Payloads.{sizeOf}
-use Rattle.judgement.specs.Judgement.{announcementOf, withdrawalOf, queryOf, judgedOf}
+use Rattle.judgement.specs.Judgement.{announcementOf, withdrawalOf, queryOf, firstOf, laterOf, judgedOf}
 use Rattle.judgement.specs.declared.Judged.{Judged}
-use Rattle.judgement.specs.declared.Judged.the-variants.{Announcement, Withdrawal, Query, Bad}
+use Rattle.judgement.specs.declared.Judged.the-variants.{Text, Announcement, Withdrawal, Query, Bad}
 
--- ---- what a later record is
+-- ---- what a record is
 
 -- what its payload then has
 abbrev pub Fits : Judged → List ℕ → Type 0
+Fits Text p = Unit
 Fits Announcement p = totalOf (getD p 20 0) ≤ length p
 Fits (Withdrawal v) p = length p ≡ sizeOf v
 Fits (Query v) p = 4 ≤ length p
@@ -38,15 +39,53 @@ query-fits v p =
     cond-by (λ (j : Judged). Fits j p) (leb 4 (length p) && eqb ((length p - 4) % sizeOf v) 0)
     (λ e. leb-true _ _ (and-eq-true-iff (leb 4 (length p)) (eqb ((length p - 4) % sizeOf v) 0) .0 e .0)) (λ _. tt)
 
-pub judged-fits : (k : ℕ) (p : List ℕ) → Fits (judgedOf k p) p
-unfolding judgedOf
-judged-fits k p =
+later-fits : (k : ℕ) (p : List ℕ) → Fits (laterOf k p) p
+unfolding laterOf
+later-fits k p =
     let P : Judged → Type 0 = λ j. Fits j p in
     cond-by P (eqb k 1) (λ _. announcement-fits p) (λ _.
     cond-by P (eqb k 2) (λ _. withdrawal-fits false p) (λ _.
     cond-by P (eqb k 3) (λ _. query-fits false p) (λ _.
     cond-by P (eqb k 4) (λ _. withdrawal-fits true p) (λ _.
     cond-by P (eqb k 5) (λ _. query-fits true p) (λ _. tt)))))
+
+pub judged-fits : (f : Bool) (k : ℕ) (p : List ℕ) → Fits (judgedOf f k p) p
+unfolding judgedOf firstOf
+judged-fits f k p =
+    let P : Judged → Type 0 = λ j. Fits j p in
+    cond-by P f (λ _. cond-by P (eqb k 0) (λ _. tt) (λ _. tt)) (λ _. later-fits k p)
+
+-- only an announcement is of kind 1
+abbrev pub Named : Judged → ℕ → Type 0
+Named Text k = eqb k 1 ≡ false
+Named Announcement k = eqb k 1 ≡ true
+Named (Withdrawal v) k = eqb k 1 ≡ false
+Named (Query v) k = eqb k 1 ≡ false
+Named Bad k = Unit
+
+module _ (k : ℕ) (p : List ℕ) where
+  announcement-named : eqb k 1 ≡ true → Named (announcementOf p) k
+  unfolding announcementOf
+  announcement-named e = cond-by (λ (j : Judged). Named j k) (leb (totalOf (getD p 20 0)) (length p)) (λ _. e) (λ _. tt)
+
+  withdrawal-named : (v : Bool) → eqb k 1 ≡ false → Named (withdrawalOf v p) k
+  unfolding withdrawalOf
+  withdrawal-named v e = cond-by (λ (j : Judged). Named j k) (eqb (length p) (sizeOf v)) (λ _. e) (λ _. tt)
+
+  query-named : (v : Bool) → eqb k 1 ≡ false → Named (queryOf v p) k
+  unfolding queryOf
+  query-named v e = cond-by (λ (j : Judged). Named j k) (leb 4 (length p) && eqb ((length p - 4) % sizeOf v) 0) (λ _. e) (λ _. tt)
+
+  pub judged-named : (f : Bool) → Named (judgedOf f k p) k
+  unfolding judgedOf firstOf laterOf
+  judged-named f =
+      let P : Judged → Type 0 = λ j. Named j k in
+      cond-by P f (λ _. cond-by P (eqb k 0) (λ e. ne-eqb k 1 (λ z. omega (arith, z, eqb-true k 0 e))) (λ _. tt)) (λ _.
+      cond-by P (eqb k 1) announcement-named (λ e.
+      cond-by P (eqb k 2) (λ _. withdrawal-named false e) (λ _.
+      cond-by P (eqb k 3) (λ _. query-named false e) (λ _.
+      cond-by P (eqb k 4) (λ _. withdrawal-named true e) (λ _.
+      cond-by P (eqb k 5) (λ _. query-named true e) (λ _. tt))))))
 
 -- ---- how the code finds it
 
@@ -85,26 +124,26 @@ module _ (p : List ℕ) where
   query-short v h = rw (lt-leb 4 (length p) h)
 
 module _ (k : ℕ) (p : List ℕ) where
-  pub judged-1 : k ≡ 1 → announcementOf p ≡ judgedOf k p
-  unfolding judgedOf
-  judged-1 e = rw e
+  pub later-1 : k ≡ 1 → announcementOf p ≡ laterOf k p
+  unfolding laterOf
+  later-1 e = rw e
 
-  pub judged-2 : k ≡ 2 → withdrawalOf false p ≡ judgedOf k p
-  unfolding judgedOf
-  judged-2 e = rw e
+  pub later-2 : k ≡ 2 → withdrawalOf false p ≡ laterOf k p
+  unfolding laterOf
+  later-2 e = rw e
 
-  pub judged-3 : k ≡ 3 → queryOf false p ≡ judgedOf k p
-  unfolding judgedOf
-  judged-3 e = rw e
+  pub later-3 : k ≡ 3 → queryOf false p ≡ laterOf k p
+  unfolding laterOf
+  later-3 e = rw e
 
-  pub judged-4 : k ≡ 4 → withdrawalOf true p ≡ judgedOf k p
-  unfolding judgedOf
-  judged-4 e = rw e
+  pub later-4 : k ≡ 4 → withdrawalOf true p ≡ laterOf k p
+  unfolding laterOf
+  later-4 e = rw e
 
-  pub judged-5 : k ≡ 5 → queryOf true p ≡ judgedOf k p
-  unfolding judgedOf
-  judged-5 e = rw e
+  pub later-5 : k ≡ 5 → queryOf true p ≡ laterOf k p
+  unfolding laterOf
+  later-5 e = rw e
 
-  pub judged-none : (k ≡ 1 → ⊥) → (k ≡ 2 → ⊥) → (k ≡ 3 → ⊥) → (k ≡ 4 → ⊥) → (k ≡ 5 → ⊥) → Bad ≡ judgedOf k p
-  unfolding judgedOf
-  judged-none a b c d e = rw (ne-eqb k 1 a, ne-eqb k 2 b, ne-eqb k 3 c, ne-eqb k 4 d, ne-eqb k 5 e)
+  pub later-none : (k ≡ 1 → ⊥) → (k ≡ 2 → ⊥) → (k ≡ 3 → ⊥) → (k ≡ 4 → ⊥) → (k ≡ 5 → ⊥) → Bad ≡ laterOf k p
+  unfolding laterOf
+  later-none a b c d e = rw (ne-eqb k 1 a, ne-eqb k 2 b, ne-eqb k 3 c, ne-eqb k 4 d, ne-eqb k 5 e)

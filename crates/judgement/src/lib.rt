@@ -1,10 +1,13 @@
-// What a record of the bench program after the first is (document 01, "The bench program"): judged by its kind and its payload, and not carried out.
+// The rules of a record, for the bench program and for dumps of its records (document 01, "The bench program"; document 02, M-111): what a record of a run is, judged by its
+// place, its kind and its payload, and not carried out.
 ghost use mathlib.Core.Path.{_≡_};
 ghost use mathlib.Core.Bool.{true, false};
-ghost use Rattle.judgement.specs.Judgement.{announcementOf, withdrawalOf, queryOf, judgedOf};
+ghost use Rattle.judgement.specs.Judgement.{announcementOf, withdrawalOf, queryOf, firstOf, laterOf, judgedOf};
 
-// What a record after the first is; a withdrawal and a query say whether their addresses are IPv6.
+// What a record is: the text of an identifier (a plate, in document 01), an announcement, a withdrawal, a query, or bad. A withdrawal and a query say whether their addresses
+// are IPv6.
 pub enum Judged {
+    Text,
     Announcement,
     Withdrawal(bool),
     Query(bool),
@@ -47,9 +50,19 @@ fn query(payload: &[u8], v6: bool) -> Judged
     Judged::Query(v6)
 }
 
+// What the first record is, by its kind: its payload is not looked at.
+fn first_record(kind: u8) -> Judged
+    ensures { λ r. ⌜ r ≡ firstOf kind ⌝ }
+{
+    if kind != 0 {
+        return Judged::Bad;
+    }
+    Judged::Text
+}
+
 // What a record after the first is, by its kind and its payload.
-pub fn judge(kind: u8, payload: &[u8]) -> Judged
-    ensures { λ r. ⌜ r ≡ judgedOf kind (now (payload .entry)) ⌝ }
+fn later_record(kind: u8, payload: &[u8]) -> Judged
+    ensures { λ r. ⌜ r ≡ laterOf kind (now (payload .entry)) ⌝ }
 {
     match kind {
         1 => announcement(payload),
@@ -59,4 +72,14 @@ pub fn judge(kind: u8, payload: &[u8]) -> Judged
         5 => query(payload, true),
         _ => Judged::Bad,
     }
+}
+
+// What a record is, the first of a run where `first` says so.
+pub fn judge(first: bool, kind: u8, payload: &[u8]) -> Judged
+    ensures { λ r. ⌜ r ≡ judgedOf first kind (now (payload .entry)) ⌝ }
+{
+    if first {
+        return first_record(kind);
+    }
+    later_record(kind, payload)
 }

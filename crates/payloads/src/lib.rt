@@ -21,7 +21,7 @@ pub fn size(v6: bool) -> usize
 }
 
 // The number that four octets make, from an offset on.
-fn word_at(s: &[u8], at: usize) -> u32
+pub fn word_at(s: &[u8], at: usize) -> u32
     requires { ⌜ at + 4 ≤ length (now s) ⌝ }
     ensures { λ r. ⌜ r ≡ numberOf (getD (now (s .entry)) at 0 ∷ getD (now (s .entry)) (at + 1) 0 ∷ getD (now (s .entry)) (at + 2) 0 ∷ getD (now (s .entry)) (at + 3) 0 ∷ []) ⌝ }
 {

@@ -1,6 +1,6 @@
 -- The bench program's run (document 01, "The bench program"): octets in, octets out. The turns of records by kind are those of `turns`.
 --   turnOf j t p       == the turn of a record that is j
---   laterTurn t k p    == the turn of a record of kind k after the first
+--   judgedTurn t f k p == the turn of a record of kind k, the first where f says so: the rules of a record are those of `judgement`
 --   turnIn h t k p     == the turn of a record of kind k with the payload p in the phase h, upon the table t
 --   turn b k p         == the turn of a record of kind k with the payload p in the state b
 --   isEnd h            == whether h is the last phase
@@ -25,24 +25,24 @@ use Rattle.answer_lines.specs.AnswerLines.{badLine}
 use Rattle.turns.specs.declared.Phase.{Phase}
 use Rattle.turns.specs.declared.Phase.the-variants.{Start, Running, Ended}
 use Rattle.judgement.specs.declared.Judged.{Judged}
-use Rattle.judgement.specs.declared.Judged.the-variants.{Announcement, Withdrawal, Query, Bad}
+use Rattle.judgement.specs.declared.Judged.the-variants.{Text, Announcement, Withdrawal, Query, Bad}
 use Rattle.judgement.specs.Judgement.{judgedOf}
 use Rattle.turns.specs.Turns.{Bench, Turn, atEnd, badTurn, textTurn, announceTurn, withdrawTurn, queryTurn}
 
 -- WHICH TURN A RECORD'S IS
 unfoldable pub turnOf : Judged → Table → List ℕ → Turn
+turnOf Text t p = textTurn t p
 turnOf Announcement t p = announceTurn t p
 turnOf (Withdrawal v) t p = withdrawTurn t v p
 turnOf (Query v) t p = queryTurn t v p
 turnOf Bad t p = badTurn t
 
-abbrev pub laterTurn : Table → ℕ → List ℕ → Turn
-laterTurn t k p = turnOf (judgedOf k p) t p
+abbrev pub judgedTurn : Table → Bool → ℕ → List ℕ → Turn
+judgedTurn t f k p = turnOf (judgedOf f k p) t p
 
--- the first record is of kind 0, and no later one is
 unfoldable pub turnIn : Phase → Table → ℕ → List ℕ → Turn
-turnIn Start t k p = cond (eqb k 0) (textTurn t p) (badTurn t)
-turnIn Running t k p = laterTurn t k p
+turnIn Start t k p = judgedTurn t true k p
+turnIn Running t k p = judgedTurn t false k p
 turnIn Ended t k p = record { line = []; next = atEnd t }
 
 abbrev pub turn : Bench → ℕ → List ℕ → Turn

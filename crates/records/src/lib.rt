@@ -11,18 +11,26 @@ ghost use lib.ListN.{length};
 ghost use Rattle.layout.specs.Words.{tableIn, Valid};
 ghost use Rattle.turns.specs.Turns.{stateIn};
 ghost use Rattle.turns.specs.Steps.{Stepped};
-ghost use Rattle.records.specs.Records.{laterTurn, turn, takes};
+ghost use Rattle.records.specs.Records.{judgedTurn, turn, takes};
 
 // The most octets that a record's payload has.
 const MAX_PAYLOAD: usize = 255;
 
-// A record after the first: judged, and carried out.
-fn later(t: &mut [u32], kind: u8, payload: &[u8], out: &mut [u8], at: usize) -> Step
+// A record, the first where `first` says so: judged, and carried out.
+fn judged_turn(
+    t: &mut [u32],
+    first: bool,
+    kind: u8,
+    payload: &[u8],
+    out: &mut [u8],
+    at: usize,
+) -> Step
     requires { ⌜ (at + 48 ≤ length (now out)) × (length (now payload) ≤ 255) × Valid (now t) ⌝ }
-    ensures { λ r. ⌜ Stepped (now (out .entry)) at (laterTurn (tableIn (now (t .entry))) kind (now (payload .entry))) r (now (t .exit)) (now (out .exit)) ⌝ }
+    ensures { λ r. ⌜ Stepped (now (out .entry)) at (judgedTurn (tableIn (now (t .entry))) first kind (now (payload .entry))) r (now (t .exit)) (now (out .exit)) ⌝ }
 {
-    let judged = judgement::judge(kind, payload);
+    let judged = judgement::judge(first, kind, payload);
     match judged {
+        Judged::Text => opening::begin(t, payload, out, at),
         Judged::Announcement => turns::announce(t, payload, out, at),
         Judged::Withdrawal(v6) => turns::withdraw(t, v6, payload, out, at),
         Judged::Query(v6) => queries::query(t, v6, payload, out, at),
@@ -43,13 +51,8 @@ fn carry_out(
     ensures { λ r. ⌜ Stepped (now (out .entry)) at (turn (stateIn phase (now (t .entry))) kind (now (payload .entry))) r (now (t .exit)) (now (out .exit)) ⌝ }
 {
     match phase {
-        Phase::Start => {
-            if kind != 0 {
-                return turns::refuse(out, at);
-            }
-            opening::begin(t, payload, out, at)
-        }
-        Phase::Running => later(t, kind, payload, out, at),
+        Phase::Start => judged_turn(t, true, kind, payload, out, at),
+        Phase::Running => judged_turn(t, false, kind, payload, out, at),
         Phase::Ended => Step { phase, at },
     }
 }

@@ -1,5 +1,5 @@
--- The refusal numbers (document 01, "Refusal numbers", and the requests of document 02). 0 is no refusal. 16, a bad record, no call answers: the bench
--- program writes it as a line (`badLine` in `records`).
+-- The refusal numbers (document 01, "Refusal numbers", and the requests of document 02). 0 is no refusal. 16, a bad record, the bench
+-- program writes as a line (`badLine` in `answer_lines`).
 use Prim.Native.Nat.{ℕ}
 
 -- a route's length
@@ -61,6 +61,10 @@ bufferShort = 14
 -- an algorithm that is not usable here
 abbrev pub algorithmNotUsable : ℕ
 algorithmNotUsable = 15
+
+-- a record that breaks the rules of bench records (document 02, M-111)
+abbrev pub badRecord : ℕ
+badRecord = 16
 
 -- a wait that is not 1 to 600 seconds (document 02, M-100)
 abbrev pub waitOutOfRange : ℕ

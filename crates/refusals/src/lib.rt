@@ -1,5 +1,5 @@
-// The refusal numbers (document 01, "Refusal numbers", and the requests of document 02). 0 is no refusal. 16, a bad record, no call answers: the bench
-// program writes it as a line (`badLine` in `records`).
+// The refusal numbers (document 01, "Refusal numbers", and the requests of document 02). 0 is no refusal. 16, a bad record, the bench
+// program writes as a line (`badLine` in `answer_lines`).
 
 // A route's length.
 pub const WRONG_LENGTH: u8 = 1;
@@ -45,6 +45,9 @@ pub const BUFFER_SHORT: u8 = 14;
 
 // An algorithm that is not usable here.
 pub const ALGORITHM_NOT_USABLE: u8 = 15;
+
+// A record that breaks the rules of bench records (document 02, M-111).
+pub const BAD_RECORD: u8 = 16;
 
 // A wait that is not 1 to 600 seconds (document 02, M-100).
 pub const WAIT_OUT_OF_RANGE: u8 = 17;

@@ -1,43 +1,17 @@
--- `judge` meets its contract: one case for each kind. Assumes nothing.
-use native.Mathlib.Omega.{arith}
+-- `judge` meets its contract: the first record, or a later one. Assumes nothing.
 use mathlib.Core.Path.{_∙_}
-use Rattle.judgement.proofs.Laws.{judged-1, judged-2, judged-3, judged-4, judged-5, judged-none}
+use Rattle.judgement.specs.Judgement.{judgedOf}
 use borrow.Author.Needs.{needs}
 use Rattle.judgement.proofs.judge.Statement.{statement}
 use Rattle.judgement.proofs.judge.Tie as tie
 
 returns : tie.Need-returns
-returns c = let a = c .before .before .before .args in c .announcement .ensures ∙ judged-1 (a .kind) (a .payload .now) (omega arith)
+unfolding judgedOf
+returns c = rw (c .before .if1 .taken) (c .first-record .ensures)
 
 returns-2 : tie.Need-returns-2
-returns-2 c = let a = c .before .before .before .args in c .withdrawal .ensures ∙ judged-2 (a .kind) (a .payload .now) (omega arith)
-
-returns-3 : tie.Need-returns-3
-returns-3 c = let a = c .before .before .before .args in c .query .ensures ∙ judged-3 (a .kind) (a .payload .now) (omega arith)
-
-returns-4 : tie.Need-returns-4
-returns-4 c = let a = c .before .before .before .args in c .withdrawal2 .ensures ∙ judged-4 (a .kind) (a .payload .now) (omega arith)
-
-returns-5 : tie.Need-returns-5
-returns-5 c = let a = c .before .before .before .args in c .query2 .ensures ∙ judged-5 (a .kind) (a .payload .now) (omega arith)
-
-returns-6 : tie.Need-returns-6
-returns-6 c =
-    let a = c .before .before .args in
-    judged-none (a .kind) (a .payload .now) (λ e. omega (arith, c .match .rest)) (λ e. omega (arith, c .match .rest)) (λ e. omega (arith, c .match .rest)) (λ e. omega (arith, c .match .rest)) (λ e. omega (arith, c .match .rest))
+unfolding judgedOf
+returns-2 c = rw (c .before .if1 .left) (c .later-record .ensures)
 
 pub judge-spec : {M : Type 1} → statement M
-judge-spec =
-    tie.close
-    (tie.spec
-    (λ c κs. search needs)
-    (λ c κs. search needs)
-    (λ c κs. search needs)
-    (λ c κs. search needs)
-    (λ c κs. search needs)
-    returns
-    returns-2
-    returns-3
-    returns-4
-    returns-5
-    returns-6)
+judge-spec = tie.close (tie.spec (λ c κs. search needs) returns (λ c κs. search needs) returns-2)
