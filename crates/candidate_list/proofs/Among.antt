@@ -2,13 +2,12 @@
 use Prim.Native.Nat.{ℕ, _^_, _≤_, _<_, min}
 use native.Mathlib.Omega.{arith}
 use mathlib.Core.Path.{_≡_, ap, _∙_, sym, subst}
-use mathlib.Core.Bool.{Bool, true, false, not}
+use mathlib.Core.Bool.{Bool, true, false}
 use mathlib.Core.List.{List}
 use lib.ListN.{length, replicate, length-replicate}
 use lib.Dec.{eqb}
 use borrow.Author.Tests.{ne-eqb}
 use Rattle.lists.proofs.Bools.{one-of-two}
-use Rattle.community.specs.Community.{weighsPreference}
 use Rattle.layout.specs.Table.{Entry, noEntry}
 use Rattle.places.specs.Places.{places, setOf}
 use Rattle.places.proofs.Flags.{setOf-lt, picked-places, picked-all}

@@ -9,16 +9,16 @@ use lib.ListN.{length, getD, take}
 use lib.Seq.{take-suc, take-length, length-take-le}
 use borrow.Author.Tests.{lt-ltb, le-ltb}
 use Rattle.lists.specs.Lists.{all}
-use Rattle.lists.proofs.Bools.{by-test, cond-by, or-left, or-right}
+use Rattle.lists.proofs.Bools.{by-test, or-left, or-right}
 use Rattle.lists.proofs.Lists.{perm-length}
-use Rattle.keyed.specs.Keyed.{Distinct, has, insert}
+use Rattle.keyed.specs.Keyed.{has, insert}
 use Rattle.keyed.proofs.Order.{perm-insert, length-insert, has-perm, distinct-perm}
 use Rattle.layout.specs.Table.{Entry, entryKey}
 use Rattle.backup.specs.declared.Backup.{Backup}
 use Rattle.backup.specs.Backup.{refusedBackup}
 use Rattle.candidate_list.specs.declared.Candidate.{Candidate}
 use Rattle.candidate_list.specs.declared.Loaded.{Loaded}
-use Rattle.candidate_list.specs.Candidates.{candidateEntry, hasAddress, twice, recordsWrong, listWrong, backupUnder, backupInList}
+use Rattle.candidate_list.specs.Candidates.{candidateEntry, hasAddress, twice, recordsWrong, listWrong, backupUnder}
 use Rattle.candidate_list.specs.Steps.{unfit, ValidLoaded, entriesOf, NothingLoaded, Pushed}
 use Rattle.candidate_list.proofs.Orders.{records-perm, list-distinct, under-perm, Named, named}
 

@@ -1,12 +1,12 @@
 -- The order of a list does not matter: the backup among candidates of which no two have one address is that of any order of them, and a list is refused in any order or in none. Assumes nothing.
-use Prim.Native.Nat.{ℕ, _%_, _≤_, _<_}
+use Prim.Native.Nat.{ℕ, _%_, _≤_}
 use native.Mathlib.Omega.{arith}
 use mathlib.Core.Path.{_≡_, refl, ap, ap₂, _∙_, sym}
 use mathlib.Core.Bool.{Bool, true, false, cond, not, _&&_, _||_}
 use mathlib.Core.List.{List, [], _∷_, map, List·Memᴰ, List·Memᴰ·head, List·Memᴰ·tail, List·Permᴰ, List·Permᴰ·nil, List·Permᴰ·cons, List·Permᴰ·swap, List·Permᴰ·trans, Permᴰ·symm, Permᴰ·map}
 use lib.ListN.{length, getD}
 use lib.Dec.{ltb, eqb}
-use borrow.Author.Tests.{eqb-true, lt-ltb, le-ltb, ne-eqb}
+use borrow.Author.Tests.{lt-ltb, le-ltb}
 use Rattle.lists.specs.Lists.{all}
 use Rattle.lists.proofs.Bools.{by-test, true-false, not-false-true, or-left, or-right}
 use Rattle.lists.proofs.Numbers.{either}
@@ -19,7 +19,7 @@ use Rattle.layout.specs.Table.{Entry, entryKey, noEntry}
 use Rattle.choice.specs.Choice.{bestOf}
 use Rattle.choice.proofs.Laws.{Unique, unique-sub}
 use Rattle.choice.proofs.Criteria.{unique-distinct}
-use Rattle.winner.specs.Winner.{better, elected}
+use Rattle.winner.specs.Winner.{elected}
 use Rattle.winner.proofs.Orders.{better-any}
 use Rattle.answers.specs.Answers.{Method}
 use Rattle.answers.proofs.Laws.{elected-in, elected-top, elected-only}
@@ -27,7 +27,7 @@ use Rattle.backup.specs.declared.Backup.{Backup}
 use Rattle.backup.specs.Backup.{refusedBackup, namedBackup, withoutForwarder, backupBy, SecondInLine}
 use Rattle.backup.proofs.Laws.{left-of, left-in, left-other, rest-there, second-by}
 use Rattle.candidate_list.specs.declared.Candidate.{Candidate}
-use Rattle.candidate_list.specs.Candidates.{candidateEntry, hasAddress, twice, recordsWrong, listWrong, byPreference, backupUnder, backupInList}
+use Rattle.candidate_list.specs.Candidates.{candidateEntry, hasAddress, twice, recordsWrong, listWrong, byAlgorithm, backupUnder, backupInList}
 
 and-swap : (a b c : Bool) → (a && (b && c)) ≡ (b && (a && c))
 and-swap true b c = refl
@@ -139,28 +139,28 @@ module _ (a : ℕ) where
   under-perm false l m f =
       by-test (not (weighsPreference a))
       (λ e. rw e)
-      (λ e. rw e (backup-perm (byPreference a) 0 (weighs-some a e) l m (f refl .0) (f refl .1)))
+      (λ e. rw e (backup-perm (byAlgorithm a) 0 (weighs-some a e) l m (f refl .0) (f refl .1)))
 
   list-answer : (cs ds : List Candidate) → List·Permᴰ cs ds → backupInList cs a ≡ backupInList ds a
   list-answer cs ds h =
       under-perm (listWrong cs) (map candidateEntry cs) (map candidateEntry ds) (λ e. (list-distinct cs e, Permᴰ·map candidateEntry h))
       ∙ ap (λ (w : Bool). backupUnder w a (map candidateEntry ds)) (list-perm h)
 
-  second-under : (w : Bool) (l : List Entry) → (w ≡ false → Distinct entryKey l) → backupUnder w a l .number ≡ 0 → SecondInLine (byPreference a) l 0 (backupUnder w a l)
+  second-under : (w : Bool) (l : List Entry) → (w ≡ false → Distinct entryKey l) → backupUnder w a l .number ≡ 0 → SecondInLine (byAlgorithm a) l 0 (backupUnder w a l)
   unfolding backupUnder
   second-under true l f = λ h. absurd (omega (arith, h))
   second-under false l f = go (not (weighsPreference a)) refl
     where
-      go : (b : Bool) → not (weighsPreference a) ≡ b → cond b (refusedBackup 15) (backupBy (byPreference a) l 0) .number ≡ 0
-          → SecondInLine (byPreference a) l 0 (cond b (refusedBackup 15) (backupBy (byPreference a) l 0))
+      go : (b : Bool) → not (weighsPreference a) ≡ b → cond b (refusedBackup 15) (backupBy (byAlgorithm a) l 0) .number ≡ 0
+          → SecondInLine (byAlgorithm a) l 0 (cond b (refusedBackup 15) (backupBy (byAlgorithm a) l 0))
       go true e h = absurd (omega (arith, h))
-      go false e h = second-by (byPreference a) l 0 (f refl) (weighs-some a e) h
+      go false e h = second-by (byAlgorithm a) l 0 (f refl) (weighs-some a e) h
 
   -- what the walk promises
   abbrev pub Named : List Candidate → Backup → Type 0
   Named cs r =
       (r ≡ backupInList cs a)
-      × ((r .number ≡ 0 → SecondInLine (byPreference a) (map candidateEntry cs) 0 r)
+      × ((r .number ≡ 0 → SecondInLine (byAlgorithm a) (map candidateEntry cs) 0 r)
       × ((other : List Candidate) → List·Permᴰ other cs → r ≡ backupInList other a))
 
   pub named : (cs : List Candidate) (r : Backup) → r ≡ backupInList cs a → Named cs r

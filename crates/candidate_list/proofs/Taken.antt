@@ -1,5 +1,5 @@
 -- A record as an entry: its address, and the table that takes it in. Assumes nothing.
-use Prim.Native.Nat.{ℕ, _≤_, _<_}
+use Prim.Native.Nat.{ℕ, _<_}
 use native.Mathlib.Omega.{arith}
 use mathlib.Core.Path.{_≡_, refl, ap, _∙_, sym, subst}
 use mathlib.Core.Bool.{Bool, true, false, cond, not, _&&_, _||_, or-true}
@@ -7,9 +7,8 @@ use mathlib.Core.List.{List, [], _∷_}
 use mathlib.Core.Logic.{inl}
 use lib.ListN.{length}
 use lib.Dec.{eqb}
-use borrow.Author.Tests.{not-true, eq-eqb, ne-eqb}
+use borrow.Author.Tests.{ne-eqb}
 use Rattle.lists.specs.Lists.{Every, all}
-use Rattle.lists.proofs.Bools.{by-test}
 use Rattle.octets.specs.Octets.{allAre}
 use Rattle.keyed.specs.Keyed.{spliced, has, insert}
 use Rattle.keyed.proofs.Keyed.{rising-insert, every-insert}

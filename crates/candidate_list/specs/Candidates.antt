@@ -1,11 +1,12 @@
 -- The backup over a list of candidates (document 02, M-113): records of an address, a preference and a DP bit, in any order. All of them are eligible, and the caller names algorithm 2 or 3.
 --   candidateRow c         == the address of the record c as a row of words: in an IPv4 one the words after the first don't count
+--   candidateElection c    == what the record c says of the election
 --   candidateEntry c       == the record c as an entry
 --   hasAddress c           == whether the record c has an address: its family is 4 or 6, and the address is not zero
 --   twice key l            == whether two elements of l have the same key
 --   recordsWrong cs        == whether one of the records cs has no address, or an address stands among them twice
 --   listWrong cs           == whether the list cs is refused: it is over 64, or its records are wrong
---   byPreference a         == the method of the algorithm a, 2 or 3, under which no digest counts
+--   byAlgorithm a          == the method of the algorithm a, 2 or 3, under which no digest counts
 --   backupUnder w a l      == the answer under the algorithm a among the entries l, where w tells whether their list is refused
 --   backupInList cs a      == THE answer for the list cs under the algorithm a
 use Prim.Native.Nat.{ℕ}
@@ -52,14 +53,14 @@ unfoldable pub listWrong : List Candidate → Bool
 listWrong cs = ltb 64 (length cs) || recordsWrong cs
 
 -- THE ANSWER: 22 for a list that is refused, 15 for an algorithm that is neither 2 nor 3, and 12 for fewer than two records. Under 2 and 3 neither a digest nor a tag counts
-abbrev pub byPreference : ℕ → Method
-byPreference a = record { algorithm = a; digest = 0; told = a }
+abbrev pub byAlgorithm : ℕ → Method
+byAlgorithm a = record { algorithm = a; digest = 0; told = a }
 
 unfoldable pub backupUnder : Bool → ℕ → List Entry → Backup
 backupUnder w a l =
     cond w (refusedBackup candidatesWrong)
     (cond (not (weighsPreference a)) (refusedBackup algorithmNotUsable)
-    (backupBy (byPreference a) l 0))
+    (backupBy (byAlgorithm a) l 0))
 
 abbrev pub backupInList : List Candidate → ℕ → Backup
 backupInList cs a = backupUnder (listWrong cs) a (map candidateEntry cs)

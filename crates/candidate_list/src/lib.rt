@@ -10,12 +10,12 @@ use refusals::CANDIDATES_WRONG;
 use rows::Found;
 ghost use mathlib.Core.Path.{_≡_};
 ghost use mathlib.Core.List.{List, map, List·Permᴰ};
-ghost use Prim.Native.Nat.{_<_, _≤_};
+ghost use Prim.Native.Nat.{_<_};
 ghost use lib.ListN.{length};
 ghost use Rattle.layout.specs.Words.{tableIn};
 ghost use Rattle.refusals.specs.Refusals.{candidatesWrong};
 ghost use Rattle.backup.specs.Backup.{refusedBackup, SecondInLine};
-ghost use Rattle.candidate_list.specs.Candidates.{candidateEntry, byPreference, backupUnder, backupInList};
+ghost use Rattle.candidate_list.specs.Candidates.{candidateEntry, byAlgorithm, backupUnder, backupInList};
 ghost use Rattle.candidate_list.specs.Steps.{unlessZero, OriginatorOf, Loadable, TakenIn, ValidLoaded, entriesOf, NothingLoaded, Pushed};
 
 // The most records that a list may have.
@@ -27,7 +27,7 @@ const SEGMENT: [u8; 10] = [0, 0, 0, 0, 0, 0, 0, 0, 0, 1];
 // The algorithm that an entry is kept under, so that it has a preference: the caller's is the one that counts.
 const HIGHEST_PREFERENCE: u8 = 2;
 
-// A candidate: its address, the family (4 or 6) and four words, an IPv4 address in the first, where the others don't count; its preference and its DP bit.
+// A candidate: its address, the family (4 or 6) and four words, an IPv4 address in the first, where the others don't count; its preference and its DP bit, which in C is 0 or 1 and nothing else.
 #[repr(C)]
 pub struct Candidate {
     pub family: u8,
@@ -169,10 +169,11 @@ fn too_long() -> Backup
 
 // Names the backup among a list of candidates, in any order, all of them eligible, under algorithm 2 or 3: 22 for a list over 64, with an address twice, with address zero or with a family that is
 // neither 4 nor 6; then 15 for another algorithm; then 12 for fewer than two records. An address that is named is that of a candidate other than the forwarder, and no other candidate but the
-// forwarder is better. The order of the list does not matter.
-pub fn name_backup_in(list: &[Candidate], algorithm: u8) -> Backup
+// forwarder is better. The order of the list does not matter. To C, which sees it as well, the list is a pointer and a count.
+#[no_mangle]
+pub extern "C" fn name_backup_in(list: &[Candidate], algorithm: u8) -> Backup
     ensures answer { λ r. ⌜ r ≡ backupInList (now (list .entry)) algorithm ⌝ }
-    ensures second { λ r. ⌜ (r .number ≡ 0 → SecondInLine (byPreference algorithm) (map candidateEntry (now (list .entry))) 0 r) ⌝ }
+    ensures second { λ r. ⌜ (r .number ≡ 0 → SecondInLine (byAlgorithm algorithm) (map candidateEntry (now (list .entry))) 0 r) ⌝ }
     ensures any_order { λ r. ⌜ ((other : List Candidate) → List·Permᴰ other (now (list .entry)) → r ≡ backupInList other algorithm) ⌝ }
 {
     if MAX_CANDIDATES < list.len() {

@@ -2,7 +2,6 @@
 use mathlib.Core.Path.{_∙_, sym, subst}
 use borrow.Author.Needs.{needs}
 use Rattle.rows.proofs.Places.{missing-le}
-use Rattle.address.specs.Address.{addressRow, addressKey}
 use Rattle.layout.specs.Table.{entryKey}
 use Rattle.layout.specs.Words.{tableIn}
 use Rattle.candidate_list.specs.Steps.{OriginatorOf}
