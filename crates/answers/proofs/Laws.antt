@@ -103,7 +103,7 @@ module _ (a tag d : ℕ) where
   elected-top [] q z x m = absurd (List·Memᴰ·not-nil m)
   elected-top (y ∷ l) q z x m = rw (ne-eqb a 0 z, bestOf-cons (better a d) noEntry y l) (best-top entryKey (better a d) (order-better a d) y l q x m)
 
-  elected-only : (l : List Entry) → Unique entryKey l → (a ≡ 0 → ⊥) → (x : Entry) → List·Memᴰ x l → ((y : Entry) → List·Memᴰ y l → better a d y x ≡ false) → x ≡ elected a tag d l
+  pub elected-only : (l : List Entry) → Unique entryKey l → (a ≡ 0 → ⊥) → (x : Entry) → List·Memᴰ x l → ((y : Entry) → List·Memᴰ y l → better a d y x ≡ false) → x ≡ elected a tag d l
   unfolding elected
   elected-only [] q z x m n = absurd (List·Memᴰ·not-nil m)
   elected-only (y ∷ l) q z x m n = best-only entryKey (better a d) (order-better a d) y l q x m n ∙ sym (rw (ne-eqb a 0 z) (bestOf-cons (better a d) noEntry y l))

@@ -3,7 +3,7 @@ use Prim.Native.Nat.{ℕ, zero, suc, _+_, _*_, _/_, _%_, _^_, _≤_, _<_}
 use native.Mathlib.Nat.{le-of-suc-le-suc, not-suc-le-zero, two-pow-succ}
 use native.Mathlib.Omega.{arith}
 use mathlib.Core.Path.{_≡_, refl, ap, _∙_, sym, subst}
-use mathlib.Core.Bool.{Bool, true, false, cond, or-true}
+use mathlib.Core.Bool.{Bool, true, false, cond}
 use mathlib.Core.List.{List, [], _∷_, List·Memᴰ, List·Memᴰ·head, List·Memᴰ·tail, List·Memᴰ·not-nil}
 use lib.ListN.{length, getD, set, length-map, length-set}
 use lib.Dec.{ltb, eqb}
@@ -11,15 +11,16 @@ use lib.Arith.{lt-one}
 use borrow.Author.Tests.{lt-ltb, le-ltb, ltb-false, eq-eqb, ne-eqb, eqb-true, eqb-false}
 use Rattle.lists.proofs.Bools.{cond-by, true-false}
 use Rattle.lists.proofs.Numbers.{whether}
-use Rattle.keyed.specs.Keyed.{Rising, has, remove}
-use Rattle.keyed.proofs.Keyed.{rising-at, rising-mem, rising-remove}
-use Rattle.keyed.proofs.Order.{remove-none, remove-here, remove-there, length-remove}
+use Rattle.keyed.specs.Keyed.{Rising, Distinct, has, remove}
+use Rattle.keyed.proofs.Keyed.{rising-at, rising-mem}
+use Rattle.keyed.proofs.Order.{remove-none, remove-here, remove-there, length-remove, has-mem, rising-distinct}
+use Rattle.keyed.proofs.Journal.{has-removed, distinct-remove}
 use Rattle.address.specs.Address.{familyOf, addressWords}
 use Rattle.layout.specs.Table.{Entry, entryKey, noEntry, Table, WellFormed}
 use Rattle.places.specs.Places.{places, setOf, picked, withoutPlace}
 use Rattle.places.proofs.Laws.{places-none}
 use Rattle.places.proofs.Flags.{setOf-lt, picked-places, withoutPlace-set}
-use Rattle.choice.proofs.Criteria.{unique-rising}
+use Rattle.choice.proofs.Criteria.{unique-distinct}
 use Rattle.tags.specs.Tags.{reservedTag}
 use Rattle.settings.specs.Settings.{Settings, SettingsRight}
 use Rattle.agreement.specs.Agreement.{inUseWith}
@@ -49,34 +50,24 @@ module _ {A : Type 0} where
   picked-mem (false ∷ bs) (y ∷ l) m = List·Memᴰ·tail (picked-mem bs l m)
 
   module _ (key : A → ℕ) where
-    has-mem : {l : List A} {x : A} → List·Memᴰ x l → has key (key x) l ≡ true
-    unfolding has
-    has-mem {l = y ∷ l} {x} (List·Memᴰ·head e) = rw (eq-eqb (key y) (key x) (ap key (sym e)))
-    has-mem {l = y ∷ l} {x} (List·Memᴰ·tail m) = rw (has-mem m) (or-true (eqb (key y) (key x)))
-
     -- WHO IS LEFT when the one of a key is removed
     module _ (k : ℕ) where
-      left-of : (l : List A) {x : A} → List·Memᴰ x (remove key k l) → List·Memᴰ x l
+      pub left-of : (l : List A) {x : A} → List·Memᴰ x (remove key k l) → List·Memᴰ x l
       left-of [] = rw (remove-none key k) (λ m. m)
       left-of (y ∷ l) =
           whether k (key y)
           (λ e. rw (remove-here key k y l e) (λ m. List·Memᴰ·tail m))
           (λ n. rw (remove-there key k y l n) (first-or (λ e. List·Memᴰ·head e) (λ m. List·Memᴰ·tail (left-of l m))))
 
-      left-in : {l : List A} {x : A} → (key x ≡ k → ⊥) → List·Memᴰ x l → List·Memᴰ x (remove key k l)
+      pub left-in : {l : List A} {x : A} → (key x ≡ k → ⊥) → List·Memᴰ x l → List·Memᴰ x (remove key k l)
       left-in {l = y ∷ l} n (List·Memᴰ·head e) = rw (remove-there key k y l (λ p. n (ap key e ∙ sym p))) (List·Memᴰ·head e)
       left-in {l = y ∷ l} n (List·Memᴰ·tail m) =
           whether k (key y)
           (λ e. rw (remove-here key k y l e) m)
           (λ o. rw (remove-there key k y l o) (List·Memᴰ·tail (left-in n m)))
 
-      left-other : (l : List A) (n : ℕ) {x : A} → Rising key n l → List·Memᴰ x (remove key k l) → key x ≡ k → ⊥
-      unfolding Rising
-      left-other [] n r = rw (remove-none key k) (λ m e. List·Memᴰ·not-nil m)
-      left-other (y ∷ l) n r =
-          whether k (key y)
-          (λ q. rw (remove-here key k y l q) (λ m e. omega (arith, rising-mem key l (suc (key y)) (r .1) m)))
-          (λ o. rw (remove-there key k y l o) (first-or (λ p e. o (sym e ∙ ap key p)) (left-other l (suc (key y)) (r .1))))
+      pub left-other : (l : List A) {x : A} → Distinct key l → List·Memᴰ x (remove key k l) → key x ≡ k → ⊥
+      left-other l d m e = true-false (has-mem key m) (ap (λ (j : ℕ). has key j (remove key k l)) e ∙ has-removed key k l d)
 
     -- A PLACE WHOSE FLAG IS CLEARED, where keys rise: its flag was set if its element was picked, and just this element is picked no more
     flag-there : (bs : List Bool) (l : List A) (n i : ℕ) (d : A) → Rising key n l → i < length l → List·Memᴰ (getD l i d) (picked bs l) → getD bs i false ≡ true
@@ -170,18 +161,16 @@ module _ (es : List Entry) (m : Method) (s tag : ℕ) where
   unfolding backupBy
   by-12 h = sym (rw (length-at es s, lt-ltb (length (places s)) 2 h))
 
-  pub by-second : (n : Method) (at : ℕ) → n ≡ m → 2 ≤ length (places s) → SecondAt es n s tag at → namedBackup (getD es at noEntry .address) ≡ backupBy m (entriesAt es (places s)) tag
+  pub by-second : (at : ℕ) → 2 ≤ length (places s) → SecondAt es m s tag at → namedBackup (getD es at noEntry .address) ≡ backupBy m (entriesAt es (places s)) tag
   unfolding backupBy
-  by-second n at e h g =
-      let k : SecondAt es m s tag at = subst (λ (x : Method). SecondAt es x s tag at) e g in
-      ap (λ (x : Entry). namedBackup (x .address)) (k .1) ∙ sym (rw (length-at es s, le-ltb (length (places s)) 2 h))
+  by-second at h g = ap (λ (x : Entry). namedBackup (x .address)) (g .1) ∙ sym (rw (length-at es s, le-ltb (length (places s)) 2 h))
 
 by-not-11 : (m : Method) (cs : List Entry) (tag : ℕ) → backupBy m cs tag .number ≡ 11 → ⊥
 unfolding backupBy
 by-not-11 m cs tag = cond-by (λ (r : Backup). r .number ≡ 11 → ⊥) (ltb (length cs) 2) (λ _ h. omega (arith, h)) (λ _ h. omega (arith, h))
 
--- WHO IS NAMED
-module _ (m : Method) (cs : List Entry) (tag : ℕ) (r : Rising entryKey 0 cs) (z : m .algorithm ≡ 0 → ⊥) where
+-- WHO IS NAMED, where no address stands twice
+module _ (m : Method) (cs : List Entry) (tag : ℕ) (d : Distinct entryKey cs) (z : m .algorithm ≡ 0 → ⊥) where
   abbrev rest : List Entry
   rest = withoutForwarder m cs tag
 
@@ -191,7 +180,7 @@ module _ (m : Method) (cs : List Entry) (tag : ℕ) (r : Rising entryKey 0 cs) (
   abbrev backed : Entry
   backed = elected (m .algorithm) tag (m .digest) rest
 
-  rest-there : 2 ≤ length cs → length rest ≡ 0 → ⊥
+  pub rest-there : 2 ≤ length cs → length rest ≡ 0 → ⊥
   rest-there h n =
       let fewer = length-remove entryKey key cs (has-mem entryKey (elected-in (m .algorithm) tag (m .digest) cs (λ q. omega (arith, q, h)))) in
       omega (arith, fewer, n, h)
@@ -204,11 +193,11 @@ module _ (m : Method) (cs : List Entry) (tag : ℕ) (r : Rising entryKey 0 cs) (
         family = refl;
         address = refl;
         candidate = left-of entryKey key cs there;
-        other = left-other entryKey key cs 0 r there;
-        top = λ x n k. elected-top (m .algorithm) tag (m .digest) rest (unique-rising entryKey 0 rest (rising-remove entryKey key cs 0 r)) z x (left-in entryKey key k n);
+        other = left-other entryKey key cs d there;
+        top = λ x n k. elected-top (m .algorithm) tag (m .digest) rest (unique-distinct entryKey rest (distinct-remove entryKey key cs d)) z x (left-in entryKey key k n);
       }
 
-  second-by : backupBy m cs tag .number ≡ 0 → SecondInLine m cs tag (backupBy m cs tag)
+  pub second-by : backupBy m cs tag .number ≡ 0 → SecondInLine m cs tag (backupBy m cs tag)
   unfolding backupBy
   second-by = go (ltb (length cs) 2) refl
     where
@@ -250,7 +239,7 @@ module _ (s : Settings) (v : SettingsRight s) (t : Table) (w : WellFormed t) (ta
       go false false true d e h = absurd (omega (arith, h))
       go false false false true e h = absurd (omega (arith, h))
       go false false false false e h =
-          second-by method among tag (rising t w (inUseWith s (t .entries) .«ac_df») ready) (method-some (eqb-false (inUseWith s (t .entries) .algorithm) 0 e)) h
+          second-by method among tag (rising-distinct entryKey among 0 (rising t w (inUseWith s (t .entries) .«ac_df») ready)) (method-some (eqb-false (inUseWith s (t .entries) .algorithm) 0 e)) h
 
   abbrev pub Backs : Backup → Type 0
   Backs r = (r ≡ whole) × Second r

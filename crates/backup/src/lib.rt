@@ -27,6 +27,7 @@ ghost use Rattle.backup.specs.Steps.{SecondAt};
 const MAX_READY: usize = 64;
 
 // The whole answer: 0 and the backup's address, its family (4 or 6) and sixteen octets in four words, an IPv4 address in the first, then zeros; or a refusal number and zeros.
+#[repr(C)]
 pub struct Backup {
     pub number: u8,
     pub family: u8,
@@ -34,7 +35,7 @@ pub struct Backup {
 }
 
 // The answer with a refusal number.
-fn refusal(number: u8) -> Backup
+pub fn refusal(number: u8) -> Backup
     ensures { λ r. ⌜ r ≡ refusedBackup number ⌝ }
 {
     Backup {
@@ -68,17 +69,25 @@ fn second_of(t: &[u32], algorithm: u8, set: u64, tag: u32) -> usize
     answers::place_by_tag(t, algorithm, rest, tag)
 }
 
-// The answer for a set of places in use, by the algorithm of a plain query: 12 where it has fewer than two.
-fn backup_of(t: &[u32], settings: &[u32], in_use: u8, set: u64, tag: u32) -> Backup
-    requires { ⌜ Valid (now t) × ValidSettings (now settings) × (reservedTag tag ≡ false) × (set < 2 ^ length (tableIn (now t) .entries)) ⌝ }
-    ensures { λ r. ⌜ r ≡ backupBy (byTag (plainAlgorithm (settingsIn (now (settings .entry))) tag «in_use») tag (tableIn (now (t .entry)) .esi)) (entriesAt (tableIn (now (t .entry)) .entries) (places set)) tag ⌝ }
+// The answer for a set of places in use, by an algorithm: 12 where it has fewer than two.
+pub fn backup_among(t: &[u32], algorithm: u8, set: u64, tag: u32) -> Backup
+    requires { ⌜ Valid (now t) × (set < 2 ^ length (tableIn (now t) .entries)) ⌝ }
+    ensures { λ r. ⌜ r ≡ backupBy (byTag algorithm tag (tableIn (now (t .entry)) .esi)) (entriesAt (tableIn (now (t .entry)) .entries) (places set)) tag ⌝ }
 {
     if places::count(set) < 2 {
         return refusal(NONE_ELIGIBLE);
     }
-    let algorithm = election::plain_algorithm(settings, tag, in_use);
     let at = second_of(t, algorithm, set, tag);
     named(t, at)
+}
+
+// The same by the algorithm of a plain query.
+fn backup_of(t: &[u32], settings: &[u32], in_use: u8, set: u64, tag: u32) -> Backup
+    requires { ⌜ Valid (now t) × ValidSettings (now settings) × (reservedTag tag ≡ false) × (set < 2 ^ length (tableIn (now t) .entries)) ⌝ }
+    ensures { λ r. ⌜ r ≡ backupBy (byTag (plainAlgorithm (settingsIn (now (settings .entry))) tag «in_use») tag (tableIn (now (t .entry)) .esi)) (entriesAt (tableIn (now (t .entry)) .entries) (places set)) tag ⌝ }
+{
+    let algorithm = election::plain_algorithm(settings, tag, in_use);
+    backup_among(t, algorithm, set, tag)
 }
 
 // Names the backup for a tag: 10 for tag 0 or 4,294,967,295, 11 for a ready list over 64 rows of five words, 12 for an empty table, 15 where algorithm 0 is in use,

@@ -7,8 +7,9 @@ use mathlib.Core.Bool.{Bool, true, false, cond, not, _&&_}
 use mathlib.Core.List.{List, [], _∷_, List·Memᴰ·head, List·Memᴰ·tail, List·Memᴰ·not-nil}
 use borrow.Author.Tests.{ltb-true, ltb-false, lt-ltb, le-ltb}
 use Rattle.lists.proofs.Bools.{true-false, not-true-false, not-false-true}
-use Rattle.keyed.specs.Keyed.{Rising}
-use Rattle.keyed.proofs.Keyed.{rising-weaken, rising-mem}
+use Rattle.keyed.specs.Keyed.{Rising, Distinct, has}
+use Rattle.keyed.proofs.Keyed.{rising-weaken}
+use Rattle.keyed.proofs.Order.{has-mem, rising-distinct}
 use Rattle.choice.specs.Choice.{best, decided, higher, lower, flagged, andThen, byScore}
 use Rattle.choice.proofs.Laws.{Order, Unique}
 
@@ -126,17 +127,19 @@ module _ {A : Type 0} (score key : A → ℕ) where
   pub order-byScore : Order key (byScore score key)
   order-byScore = order-then (higher score) (lower key) key (criterion-higher score) (order-lower key)
 
--- ---- lists whose keys rise
+-- ---- lists in which no key stands twice, as where keys rise
 
 module _ {A : Type 0} (key : A → ℕ) where
   -- a key belongs to one element
+  pub unique-distinct : (l : List A) → Distinct key l → Unique key l
+  unique-distinct [] d a b h k e = absurd (List·Memᴰ·not-nil h)
+  unique-distinct (x ∷ l) d a b (List·Memᴰ·head p) (List·Memᴰ·head q) e = p ∙ sym q
+  unique-distinct (x ∷ l) d a b (List·Memᴰ·head p) (List·Memᴰ·tail k) e = absurd (true-false (has-mem key k) (ap (λ (j : ℕ). has key j l) (sym e ∙ ap key p) ∙ d .0))
+  unique-distinct (x ∷ l) d a b (List·Memᴰ·tail h) (List·Memᴰ·head q) e = absurd (true-false (has-mem key h) (ap (λ (j : ℕ). has key j l) (e ∙ ap key q) ∙ d .0))
+  unique-distinct (x ∷ l) d a b (List·Memᴰ·tail h) (List·Memᴰ·tail k) e = unique-distinct l (d .1) a b h k e
+
   pub unique-rising : (n : ℕ) (l : List A) → Rising key n l → Unique key l
-  unfolding Rising
-  unique-rising n [] r a b h k e = absurd (List·Memᴰ·not-nil h)
-  unique-rising n (x ∷ l) r a b (List·Memᴰ·head p) (List·Memᴰ·head q) e = p ∙ sym q
-  unique-rising n (x ∷ l) r a b (List·Memᴰ·head p) (List·Memᴰ·tail k) e = absurd (omega (arith, ap key p, rising-mem key l (suc (key x)) (r .1) k))
-  unique-rising n (x ∷ l) r a b (List·Memᴰ·tail h) (List·Memᴰ·head q) e = absurd (omega (arith, ap key q, rising-mem key l (suc (key x)) (r .1) h))
-  unique-rising n (x ∷ l) r a b (List·Memᴰ·tail h) (List·Memᴰ·tail k) e = unique-rising (suc (key x)) l (r .1) a b h k e
+  unique-rising n l r = unique-distinct l (rising-distinct key l n r)
 
 -- ---- the first with the greatest score
 

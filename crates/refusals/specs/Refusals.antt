@@ -82,6 +82,10 @@ stepOutOfRange = 19
 abbrev pub rangesWrong : ℕ
 rangesWrong = 20
 
+-- a list of candidates that is too long, or has an address twice, address zero, or (ours) a family that is neither 4 nor 6 (document 02, M-113)
+abbrev pub candidatesWrong : ℕ
+candidatesWrong = 22
+
 -- a number that names no event (ours: document 02 gives none)
 abbrev pub eventUnknown : ℕ
 eventUnknown = 23

@@ -61,5 +61,8 @@ pub const STEP_OUT_OF_RANGE: u8 = 19;
 // Ranges of tags that overlap, run backwards, name a reserved tag, or are too many (document 02, M-109).
 pub const RANGES_WRONG: u8 = 20;
 
+// A list of candidates that is too long, or has an address twice, address zero, or (ours) a family that is neither 4 nor 6 (document 02, M-113).
+pub const CANDIDATES_WRONG: u8 = 22;
+
 // A number that names no event (ours: document 02 gives none).
 pub const EVENT_UNKNOWN: u8 = 23;

@@ -1,10 +1,12 @@
-// What users link: the calls of one segment, those for multicast flows (`flow_calls`), for ranges of tags (`range_calls`) and for the second in line (`backup_calls`), and those of the table of its Ethernet A-D routes
+// What users link: the calls of one segment, those for multicast flows (`flow_calls`), for ranges of tags (`range_calls`) and for the second in line (`backup_calls`, and `candidate_list` over a list of candidates), and those of the table of its Ethernet A-D routes
 // (`circuit_calls`). The state of a segment is 497 words, its route table and what the operator has set, which the fresh call makes and the others are lent.
 // The fresh call promises demand 3 of every list of calls; each call promises that it is one more call of the list.
 use address::Address;
 use answers::Answer;
 pub use backup_calls::name_backup;
 pub use backup_calls::name_backup_by_circuits;
+pub use candidate_list::Candidate;
+pub use candidate_list::name_backup_in;
 pub use circuit_calls::announce_circuit;
 pub use circuit_calls::elect_by_circuits;
 pub use circuit_calls::fresh_circuits;

@@ -55,7 +55,7 @@ module _ (i : List ℕ) where
       ((e, refl, ap tableIn f ∙ table-in t (w .short) tt tt), subst Valid (sym f) (valid-of t w tt o))
 
 -- AN ENTRY and its words
-packed-entry : (a : List ℕ) (w : ℕ) (e : Election) → Packed e w → entryIn a (w ∷ []) ≡ entryOf a e
+pub packed-entry : (a : List ℕ) (w : ℕ) (e : Election) → Packed e w → entryIn a (w ∷ []) ≡ entryOf a e
 unfolding attributesOf kindOf standingOf
 packed-entry a w e p = ap (λ (v : ℕ). entryIn a (v ∷ [])) (p .0) ∙ entry-back (entryOf a e) (p .1)
 

@@ -1,0 +1,4 @@
+mod Orders
+mod Loads
+mod Taken
+mod Among
