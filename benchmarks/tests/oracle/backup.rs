@@ -34,6 +34,24 @@ enum Carried {
     Torn(u8),
 }
 
+impl Carried {
+    /// What all routes carry, or all but one.
+    fn algorithm(self) -> u8 {
+        match self {
+            Carried::Default => 0,
+            Carried::Named(algorithm)
+            | Carried::FlowNumber(algorithm)
+            | Carried::NotSet(algorithm)
+            | Carried::Torn(algorithm) => algorithm,
+        }
+    }
+
+    /// Whether an algorithm is in use under which a backup is named.
+    fn names(self) -> bool {
+        matches!(self, Carried::Named(_) | Carried::FlowNumber(_))
+    }
+}
+
 /// A table with all that is set beside it, and what queries of it draw from.
 struct Drawn {
     random: Random,
@@ -117,19 +135,9 @@ impl Drawn {
 
     /// An announcement of what the routes carry; many preferences are alike.
     fn run(&mut self, address: Address) -> Run {
-        let (Carried::Named(algorithm)
-        | Carried::FlowNumber(algorithm)
-        | Carried::NotSet(algorithm)
-        | Carried::Torn(algorithm)) = self.carried
-        else {
-            return self.announcing(address, 0);
-        };
-        self.announcing(address, algorithm)
-    }
-
-    fn announcing(&mut self, address: Address, algorithm: u8) -> Run {
         let random = &mut self.random;
         let preference = [0, 7, 500, 501, u16::MAX, random.word() as u16][random.below(6)];
+        let algorithm = self.carried.algorithm();
         let community = workload::community(algorithm, self.ac_df, random.one_in(2), preference);
         Run {
             route: workload::route(&ESI, address),
@@ -247,17 +255,13 @@ fn name<T: Segment + State>(beside: &Beside<T>, by: &Query, tag: u32, ready: &[u
 
 /// The first check that refuses, by what was drawn. The number of eligible ones is that of the election, which `oracle.rs` and `circuits.rs` compare.
 fn refused(drawn: &Drawn, by: &Query, (tag, ready): (u32, &[u32]), elected: Answer) -> u8 {
-    let is_named = match drawn.carried {
-        Carried::Named(_) | Carried::FlowNumber(_) => true,
-        Carried::Default | Carried::NotSet(_) | Carried::Torn(_) => false,
-    };
     if election::is_reserved(tag) {
         10
     } else if matches!(by, Query::Plain) && ready.len() / 5 > 64 {
         11
     } else if drawn.runs.is_empty() {
         12
-    } else if !is_named {
+    } else if !drawn.carried.names() {
         15
     } else if elected.n < 2 {
         12
@@ -296,52 +300,53 @@ fn takes_over<T: Segment + State>(
     beside.announce(&forwarder.route, &forwarder.communities, "again");
 }
 
+/// Notes what a query came to.
+fn hear(tally: &mut Tally, drawn: &Drawn, by: &Query, elected: Answer, backup: Backup) {
+    let (carried, size) = (drawn.carried.algorithm(), drawn.runs.len());
+    tally.note((by, "compared"));
+    tally.note((by, backup.number));
+    match backup.number {
+        0 => {
+            tally.note((by, "family", backup.family));
+            if matches!(drawn.carried, Carried::FlowNumber(_)) {
+                assert_eq!(elected.algorithm, 1);
+                tally.note((by, "under a number for flows"));
+            } else {
+                tally.note((by, carried, "AC-DF", drawn.ac_df, size));
+                if elected.algorithm != carried {
+                    tally.note((by, carried, "by a range"));
+                }
+            }
+            if (elected.n as usize) < size {
+                tally.note((by, "some ready"));
+            }
+        }
+        12 if elected.number == 0 => tally.note((by, "one eligible")),
+        12 => tally.note((by, "none eligible")),
+        _ => {}
+    }
+}
+
 fn same_as_the_reference<T: Segment + State>() {
     let mut tally = Tally::default();
     for seed in 0..TABLES {
         let mut drawn = Drawn::new(seed);
         let mut beside: Beside<T> = drawn.lay();
-        let size = drawn.runs.len();
         for _ in 0..QUERIES {
             let (tag, ready) = (drawn.asked(), drawn.ready());
             for by in [Query::Plain, Query::ByCircuits] {
+                let query = (tag, &ready[..]);
                 let backup = name(&beside, &by, tag, &ready);
                 let elected = beside.elect(&by, tag, &ready, "drawn");
-                let number = refused(&drawn, &by, (tag, &ready), elected);
+                let number = refused(&drawn, &by, query, elected);
                 assert_eq!(backup.number, number, "seed {seed}, {by:?}, tag {tag}");
-                tally.note((&by, "compared"));
-                tally.note((&by, number));
                 if number != 0 {
                     assert_eq!(backup, Backup::refused(number));
                 }
-                let Carried::Named(carried) = drawn.carried else {
-                    if let Carried::FlowNumber(_) = drawn.carried {
-                        if number == 0 {
-                            assert_eq!(elected.algorithm, 1);
-                            takes_over(&drawn, &mut beside, &by, (tag, &ready), (elected, backup));
-                            tally.note((&by, "taken over under a number for flows"));
-                        }
-                    }
-                    continue;
-                };
-                match number {
-                    0 => {
-                        tally.note((&by, carried, "AC-DF", drawn.ac_df, size));
-                        tally.note((&by, "family", backup.family));
-                        if elected.algorithm != carried {
-                            tally.note((&by, carried, "by a range"));
-                        }
-                        if (elected.n as usize) < size {
-                            tally.note((&by, "some ready"));
-                        }
-                    }
-                    12 if elected.number == 0 => tally.note((&by, "one eligible")),
-                    12 => tally.note((&by, "none eligible")),
-                    _ => {}
-                }
-                if elected.number == 0 {
-                    takes_over(&drawn, &mut beside, &by, (tag, &ready), (elected, backup));
-                    tally.note((&by, "taken over", backup.number));
+                hear(&mut tally, &drawn, &by, elected, backup);
+                if drawn.carried.names() && elected.number == 0 {
+                    takes_over(&drawn, &mut beside, &by, query, (elected, backup));
+                    tally.note((&by, "taken over", number));
                 }
             }
         }
@@ -369,7 +374,7 @@ fn is_enough(tally: &Tally) {
         tally.at_least(200, (&by, "some ready"));
         tally.at_least(100, (&by, "one eligible"));
         tally.at_least(50, (&by, "none eligible"));
-        tally.at_least(100, (&by, "taken over under a number for flows"));
+        tally.at_least(100, (&by, "under a number for flows"));
         tally.at_least(1_000, (&by, "taken over", 0));
         tally.at_least(100, (&by, "taken over", 12));
     }
