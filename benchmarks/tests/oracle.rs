@@ -1,7 +1,7 @@
 //! Every side against the reference of tests/: the same random calls, the same answers, call by call. What the Ethernet A-D routes add is in
 //! `oracle/circuits.rs`, what the elections by multicast flow add in `oracle/flows.rs`, what ranges of tags add in `oracle/ranges.rs` with the runs of
-//! `oracle/range_runs.rs`, and the second in line in `oracle/backup.rs`, from a list of candidates in `oracle/candidate_list.rs`. `oracle/beside.rs` is what the last
-//! three but that one compare by, and `oracle/tally.rs` counts what came up.
+//! `oracle/range_runs.rs`, and the second in line in `oracle/backup.rs`, from a list of candidates in `oracle/candidate_list.rs`. `oracle/beside.rs` is what all but
+//! the first compare by, and `oracle/tally.rs` counts what came up.
 
 #[path = "oracle/backup.rs"]
 mod backup;

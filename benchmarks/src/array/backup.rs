@@ -1,18 +1,53 @@
-//! The second in line: one loop over the candidates keeps the two greatest keys. A key is the score above the place counted from the end, so that of equal
-//! scores the lower place is the greater key, and the second greatest key says the place of the backup. Over all places the loop is without branches.
+//! The second in line: one loop over the candidates keeps the two best. A candidate that is not better than the second, as most are not, costs one comparison.
 
 use super::{all_places, higher, lower, Table};
 use crate::answer::Backup;
 use crate::octets::{self, Flow, MAX_ROUTES};
 
-/// The two greatest keys met, the greater first.
-#[derive(Clone, Copy, Default)]
-struct Two<K>(K, K);
+/// The two best of the places met, in rising order, each with its score. A place that is not yet there has the score -1; all others are below 2^31.
+struct Two {
+    best: (i32, usize),
+    second: (i32, usize),
+}
 
-impl<K: Copy + Ord> Two<K> {
+impl Two {
+    const NONE: Two = Two {
+        best: (-1, 0),
+        second: (-1, 0),
+    };
+
     #[inline(always)]
-    fn with(self, key: K) -> Two<K> {
-        Two(self.0.max(key), self.1.max(self.0.min(key)))
+    fn meet(&mut self, score: u32, place: usize) {
+        let met = (score as i32, place);
+        if met.0 > self.second.0 {
+            self.second = met;
+            if met.0 > self.best.0 {
+                self.second = self.best;
+                self.best = met;
+            }
+        }
+    }
+
+    /// Meets the items at the places of the set; a full set has all places. Their scores are asked for, and `from` is what their places are counted from.
+    #[inline(always)]
+    fn meet_all<N: Copy>(
+        &mut self,
+        (items, from): (&[N], usize),
+        (set, full): (u64, bool),
+        score: impl Fn(N) -> u32,
+    ) {
+        if full {
+            for (place, item) in items.iter().enumerate() {
+                self.meet(score(*item), from + place);
+            }
+            return;
+        }
+        let mut left = set;
+        while left != 0 {
+            let place = left.trailing_zeros() as usize;
+            self.meet(score(items[place]), from + place);
+            left &= left - 1;
+        }
     }
 }
 
@@ -38,12 +73,13 @@ impl Table {
             return Backup::refused(12);
         }
         let full = n == attributes.len();
-        let place = match algorithm {
-            2 => second_narrow(attributes, set, full, higher),
-            3 => second_narrow(attributes, set, full, lower),
-            _ => self.second_heaviest(set, full, octets::digest(tag, &self.esi)),
-        };
-        let (family, address) = self.number_at(place).answered();
+        let mut two = Two::NONE;
+        match algorithm {
+            2 => two.meet_all((attributes, 0), (set, full), higher),
+            3 => two.meet_all((attributes, 0), (set, full), lower),
+            _ => self.weigh(&mut two, set, full, octets::digest(tag, &self.esi)),
+        }
+        let (family, address) = self.number_at(two.second.1).answered();
         Backup {
             number: 0,
             family,
@@ -51,55 +87,20 @@ impl Table {
         }
     }
 
-    /// The place of the set with the second greatest weight.
+    /// Meets the routes at the places of the set by their weights.
     #[inline(always)]
-    fn second_heaviest(&self, set: u64, full: bool, digest: u32) -> usize {
+    fn weigh(&self, two: &mut Two, set: u64, full: bool, digest: u32) {
         let fours = &self.v4.numbers[..self.v4.count.min(MAX_ROUTES)];
         let sixes = &self.v6.numbers[..self.v6.count.min(MAX_ROUTES)];
-        let key = |place: usize, low_word: u32| {
-            let weight = octets::weight(low_word, digest);
-            u64::from(weight) << 6 | (63 - place as u64)
-        };
         let low = set & all_places(fours.len());
-        let mut two = Two::default();
-        two = met(fours, low, full, two, |place, number| key(place, number));
+        two.meet_all((fours, 0), (low, full), |number| {
+            octets::weight(number, digest)
+        });
         if !sixes.is_empty() {
             let high = (set & !low) >> (fours.len() % MAX_ROUTES);
-            two = met(sixes, high, full, two, |place, number| {
-                key(fours.len() + place, number as u32)
+            two.meet_all((sixes, fours.len()), (high, full), |number| {
+                octets::weight(number as u32, digest)
             });
         }
-        63 - (two.1 & 63) as usize
     }
-}
-
-/// The place of the set with the second greatest score, of 17 bits.
-#[inline(always)]
-fn second_narrow(words: &[u32], set: u64, full: bool, score: impl Fn(u32) -> u32) -> usize {
-    let key = |place: usize, word| (score(word) << 6 | (63 - place as u32)) as i32;
-    let two = met(words, set, full, Two::default(), key);
-    63 - (two.1 & 63) as usize
-}
-
-/// The two greatest keys, of those met before and of the items at the places of the set. A full set has all places.
-#[inline(always)]
-fn met<N: Copy, K: Copy + Ord>(
-    items: &[N],
-    set: u64,
-    full: bool,
-    before: Two<K>,
-    key: impl Fn(usize, N) -> K,
-) -> Two<K> {
-    if full {
-        let items = items.iter().enumerate();
-        return items.fold(before, |two, (place, item)| two.with(key(place, *item)));
-    }
-    let mut two = before;
-    let mut left = set;
-    while left != 0 {
-        let place = left.trailing_zeros() as usize;
-        two = two.with(key(place, items[place]));
-        left &= left - 1;
-    }
-    two
 }

@@ -1,10 +1,10 @@
 //! The second in line from a list of candidates kept as records (document 02, M-113): any function that names it is compared with the reference, on lists near 64 and
 //! 65 records, with every fault of 22 at every place, in any order.
 
-use crate::beside::Beside;
+use crate::beside::{Beside, State};
 use crate::tally::Tally;
 use crate::{named, sixteen_octets};
-use benchmarks::answer::{Address, Backup, Candidate, Family};
+use benchmarks::answer::{Address, Backup, Candidate, Family, Segment};
 use benchmarks::random::Random;
 use benchmarks::workload::{self, ESI};
 use benchmarks::{array, list, proved};
@@ -109,20 +109,10 @@ fn spoil(list: &mut [Candidate], fault: Fault, random: &mut Random) {
             blur(list, random);
         }
         Fault::Twice => {
-            let [a, b, c, d] = [
-                list[other].w0,
-                list[other].w1,
-                list[other].w2,
-                list[other].w3,
-            ];
             list[at] = Candidate {
-                family: list[other].family,
-                w0: a,
-                w1: b,
-                w2: c,
-                w3: d,
                 preference,
                 dp,
+                ..list[other]
             };
             blur(list, random);
         }
@@ -312,10 +302,7 @@ fn second_of_the_sorted(list: &[Candidate], algorithm: u8) -> Backup {
 }
 
 /// What the table form names where the candidates of a list that may be taken are all announced.
-fn by_table<T>(list: &[Candidate], algorithm: u8) -> Backup
-where
-    T: benchmarks::answer::Segment + crate::beside::State,
-{
+fn by_table<T: Segment + State>(list: &[Candidate], algorithm: u8) -> Backup {
     if is_faulty(list) {
         return Backup::refused(22);
     }
