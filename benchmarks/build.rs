@@ -1,4 +1,4 @@
-//! Links the archives of the proved calls, which `rt staticlib` writes: one of `exports`, one of `circuit_exports`, one of `flow_exports` and one of `any_source_exports`.
+//! Links the archives of the proved calls, which `rt staticlib` writes: one of `exports`, one of `circuit_exports`, one of `flow_exports`, one of `any_source_exports` and one of `backup_exports`.
 
 use std::path::Path;
 
@@ -10,6 +10,7 @@ fn main() {
         "circuit_exports",
         "flow_exports",
         "any_source_exports",
+        "backup_exports",
     ] {
         let archive = folder.join(format!("lib{name}.a"));
         assert!(archive.exists(), "first: rt staticlib {name}");

@@ -1,6 +1,6 @@
 //! The calls that every side of a comparison has, and their answers. Document 01, "The table", "The election", "The returning router"; document 02,
-//! M-102 for the Ethernet A-D routes, M-103 for the place, M-105 for addresses of both families, M-106 for elections by multicast flow and M-109 for ranges
-//! of tags. The structs that are answered are laid out as in C, so that the proved calls can answer them.
+//! M-102 for the Ethernet A-D routes, M-103 for the place, M-105 for addresses of both families, M-106 for elections by multicast flow, M-109 for ranges
+//! of tags and M-113 for the second in line. The structs that are answered are laid out as in C, so that the proved calls can answer them.
 
 /// The words of a row of a ready list: the family, 4 or 6, then the words of an address. A row of another family is a stranger; words after the last
 /// whole row are no row.
@@ -97,6 +97,28 @@ pub struct Answer {
     pub candidates: u64,
 }
 
+/// Who is second in line: 0 and the backup's family and sixteen octets, as above, or a refusal number and zeros.
+#[repr(C)]
+#[derive(Clone, Copy, Debug, Default, PartialEq, Eq)]
+pub struct Backup {
+    pub number: u8,
+    pub family: u8,
+    pub address: [u32; 4],
+}
+
+/// A candidate of a list kept as records: its address as in a row of a ready list, its preference and its DP bit.
+#[repr(C)]
+#[derive(Clone, Copy, Debug, PartialEq, Eq)]
+pub struct Candidate {
+    pub family: u8,
+    pub w0: u32,
+    pub w1: u32,
+    pub w2: u32,
+    pub w3: u32,
+    pub preference: u16,
+    pub dp: bool,
+}
+
 /// What a returning router sends: 0 and the pair, or a refusal number and zeros.
 #[repr(C)]
 #[derive(Clone, Copy, Debug, Default, PartialEq, Eq)]
@@ -117,6 +139,15 @@ impl Answer {
         Answer {
             number,
             ..Answer::default()
+        }
+    }
+}
+
+impl Backup {
+    pub fn refused(number: u8) -> Backup {
+        Backup {
+            number,
+            ..Backup::default()
         }
     }
 }
@@ -174,6 +205,12 @@ pub trait Segment {
 
     /// The election over both tables.
     fn elect_by_circuits(&self, circuits: &Self::Circuits, tag: u32) -> Answer;
+
+    /// Names the backup: the one elected among the eligible without the forwarder.
+    fn name_backup(&self, tag: u32, ready: &[u32]) -> Backup;
+
+    /// The same over both tables.
+    fn name_backup_by_circuits(&self, circuits: &Self::Circuits, tag: u32) -> Backup;
 
     fn returning(&self, address: Address, algorithm: u8, preference: u16, dp: bool) -> Sent;
 

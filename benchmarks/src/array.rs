@@ -3,15 +3,16 @@
 //! a loop over them takes several routes at once. Unused addresses are all ones, so that halvings may go past the end. A lookup halves its range without
 //! a branch, as often as the number of routes asks for, and compares at most seven entries of 64 (document 02, M-104). An address of the ready list is
 //! first looked for behind the one of its family before it, which is one of the seven. Shifts are block moves. Loops over the routes are without
-//! branches, for the compiler to vectorize. Nothing that an election derives is kept between calls. The Ethernet A-D routes are in `circuits`, and
-//! the ranges of tags in `ranges`.
+//! branches, for the compiler to vectorize. Nothing that an election derives is kept between calls. The Ethernet A-D routes are in `circuits`,
+//! the ranges of tags in `ranges` and the second in line in `backup`.
 
+mod backup;
 mod circuits;
 mod ranges;
 
 pub use circuits::Circuits;
 
-use crate::answer::{Address, Answer, Segment, Sent, Verdict, ROW_WORDS};
+use crate::answer::{Address, Answer, Backup, Segment, Sent, Verdict, ROW_WORDS};
 use crate::octets::{self, Election, Flow, FlowAlgorithms, Number, MAX_ROUTES};
 use ranges::Ranges;
 
@@ -660,6 +661,22 @@ impl Segment for Table {
             return Answer::refused(10);
         }
         self.elected(tag, Flow::NONE, || circuits.ready_set(self, tag))
+    }
+
+    #[inline]
+    fn name_backup(&self, tag: u32, ready: &[u32]) -> Backup {
+        if let Err(refused) = octets::check_election(tag, ready) {
+            return Backup::refused(refused);
+        }
+        self.backup(tag, || self.ready_set(ready))
+    }
+
+    #[inline]
+    fn name_backup_by_circuits(&self, circuits: &Circuits, tag: u32) -> Backup {
+        if tag == 0 || tag == u32::MAX {
+            return Backup::refused(10);
+        }
+        self.backup(tag, || circuits.ready_set(self, tag))
     }
 
     #[inline]

@@ -1,6 +1,6 @@
 //! A baseline whose calls are never inlined, as the proved calls are not: each costs one call.
 
-use crate::answer::{Address, Answer, Segment, Sent, Verdict};
+use crate::answer::{Address, Answer, Backup, Segment, Sent, Verdict};
 
 pub struct Called<T>(T);
 
@@ -54,6 +54,16 @@ impl<T: Segment> Segment for Called<T> {
     #[inline(never)]
     fn elect_by_circuits(&self, circuits: &T::Circuits, tag: u32) -> Answer {
         self.0.elect_by_circuits(circuits, tag)
+    }
+
+    #[inline(never)]
+    fn name_backup(&self, tag: u32, ready: &[u32]) -> Backup {
+        self.0.name_backup(tag, ready)
+    }
+
+    #[inline(never)]
+    fn name_backup_by_circuits(&self, circuits: &T::Circuits, tag: u32) -> Backup {
+        self.0.name_backup_by_circuits(circuits, tag)
     }
 
     #[inline(never)]

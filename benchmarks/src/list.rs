@@ -1,15 +1,16 @@
 //! Baseline (b): a plain doubly linked list of heap nodes in rising address order, as routing daemons keep their routes today. A lookup walks from
 //! the head; a new route allocates a node and a withdrawal frees one; an election is one walk over all nodes, and with AC-DF each node's address is
 //! looked for along the ready list; under algorithm 0 a second walk goes to the one elected. The Ethernet A-D routes are in `circuits`, the ranges of
-//! tags in `ranges`, and the list itself in `chain`.
+//! tags in `ranges`, the second in line in `backup`, and the list itself in `chain`.
 
+mod backup;
 mod chain;
 mod circuits;
 mod ranges;
 
 pub use circuits::Circuits;
 
-use crate::answer::{Address, Answer, Segment, Sent, Verdict, ROW_WORDS};
+use crate::answer::{Address, Answer, Backup, Segment, Sent, Verdict, ROW_WORDS};
 use crate::octets::{self, Election, Flow, FlowAlgorithms, Number, MAX_ROUTES};
 use chain::{Chain, Node};
 use ranges::Ranges;
@@ -407,6 +408,22 @@ impl Segment for List {
             return Answer::refused(10);
         }
         self.elected(tag, Flow::NONE, || circuits.is_ready(tag))
+    }
+
+    #[inline]
+    fn name_backup(&self, tag: u32, ready: &[u32]) -> Backup {
+        if let Err(refused) = octets::check_election(tag, ready) {
+            return Backup::refused(refused);
+        }
+        self.backup(tag, || |key: &Key| is_listed(key, ready))
+    }
+
+    #[inline]
+    fn name_backup_by_circuits(&self, circuits: &Circuits, tag: u32) -> Backup {
+        if tag == 0 || tag == u32::MAX {
+            return Backup::refused(10);
+        }
+        self.backup(tag, || circuits.is_ready(tag))
     }
 
     #[inline]

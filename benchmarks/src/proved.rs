@@ -1,7 +1,7 @@
-//! The proved calls, as the crates `exports`, `circuit_exports`, `flow_exports` and `any_source_exports` hand them to C: a slice goes over as its start and its length.
+//! The proved calls, as the crates `exports`, `circuit_exports`, `flow_exports`, `any_source_exports` and `backup_exports` hand them to C: a slice goes over as its start and its length.
 
 use crate::answer::{
-    self, Address, Answer, Circuit, Family, Segment, Sent, Verdict, CIRCUIT_WORDS,
+    self, Address, Answer, Backup, Circuit, Family, Segment, Sent, Verdict, CIRCUIT_WORDS,
 };
 
 /// 64 rows of five words, the family and the address; 64 words of attributes; the count; the ten octets of the identifier. Then the algorithm numbers set
@@ -114,6 +114,20 @@ extern "C" {
         c_length: usize,
         tag: u32,
     ) -> Answer;
+    fn segment_name_backup(
+        s: *const u32,
+        s_length: usize,
+        tag: u32,
+        ready: *const u32,
+        ready_length: usize,
+    ) -> Backup;
+    fn segment_name_backup_by_circuits(
+        s: *const u32,
+        s_length: usize,
+        c: *const u32,
+        c_length: usize,
+        tag: u32,
+    ) -> Backup;
 }
 
 // SAFETY, of every call: what is lent is live for the call and has the length that goes over with it, the words are lent for writing where they are
@@ -206,6 +220,17 @@ impl Segment for Table {
     fn elect_by_circuits(&self, circuits: &Circuits, tag: u32) -> Answer {
         let (t, c) = (self.0.as_ptr(), circuits.0.as_ptr());
         unsafe { segment_elect_by_circuits(t, WORDS, c, CIRCUITS_WORDS, tag) }
+    }
+
+    #[inline]
+    fn name_backup(&self, tag: u32, ready: &[u32]) -> Backup {
+        unsafe { segment_name_backup(self.0.as_ptr(), WORDS, tag, ready.as_ptr(), ready.len()) }
+    }
+
+    #[inline]
+    fn name_backup_by_circuits(&self, circuits: &Circuits, tag: u32) -> Backup {
+        let (s, c) = (self.0.as_ptr(), circuits.0.as_ptr());
+        unsafe { segment_name_backup_by_circuits(s, WORDS, c, CIRCUITS_WORDS, tag) }
     }
 
     #[inline]

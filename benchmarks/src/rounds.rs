@@ -48,6 +48,14 @@ pub enum Work {
         circuits: Vec<Circuit>,
         tags: Vec<u32>,
     },
+    /// A round: the backup named for the next tag, from 1 on. The ready list is rows of words.
+    NameBackup { runs: Vec<Run>, ready: Vec<u32> },
+    /// A round: the backup named over both tables for the next of the tags.
+    NameBackupByCircuits {
+        runs: Vec<Run>,
+        circuits: Vec<Circuit>,
+        tags: Vec<u32>,
+    },
     /// A round: what the router of the next address, from 1 on, sends when it comes back with a preference of 40,000 and DP set. In a mixed table they
     /// are of either family in turn.
     Returning {
@@ -98,6 +106,15 @@ fn loaded_for_flows<T: Segment>(runs: &[Run]) -> T {
     let [source_group, any_source] = FLOW_ALGORITHMS;
     table.set_flow_algorithms(source_group, any_source);
     table
+}
+
+/// The table of these Ethernet A-D routes.
+fn circuits_of<T: Segment>(circuits: &[Circuit]) -> T::Circuits {
+    let mut beside = T::Circuits::empty();
+    for route in circuits {
+        beside.announce(*route);
+    }
+    beside
 }
 
 /// Does a number of rounds. After rounds that change their table, the election for tag 1 with all of them ready is heard too.
@@ -182,13 +199,28 @@ pub fn rounds<T: Segment>(work: &Work, rounds: u32, hearer: &mut impl Hearer) {
             tags,
         } => {
             let table: T = loaded(runs);
-            let mut beside = T::Circuits::empty();
-            for route in circuits {
-                beside.announce(*route);
-            }
+            let beside = circuits_of::<T>(circuits);
             for tag in tags.iter().cycle().take(rounds as usize) {
                 let (beside, tag) = (black_box(&beside), *black_box(tag));
                 hearer.hear(table.elect_by_circuits(beside, tag));
+            }
+        }
+        Work::NameBackup { runs, ready } => {
+            let table: T = loaded(runs);
+            for tag in 1..=rounds {
+                hearer.hear(table.name_backup(black_box(tag), black_box(ready)));
+            }
+        }
+        Work::NameBackupByCircuits {
+            runs,
+            circuits,
+            tags,
+        } => {
+            let table: T = loaded(runs);
+            let beside = circuits_of::<T>(circuits);
+            for tag in tags.iter().cycle().take(rounds as usize) {
+                let (beside, tag) = (black_box(&beside), *black_box(tag));
+                hearer.hear(table.name_backup_by_circuits(beside, tag));
             }
         }
         Work::Returning {

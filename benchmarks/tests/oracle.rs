@@ -1,9 +1,14 @@
 //! Every side against the reference of tests/: the same random calls, the same answers, call by call. What the Ethernet A-D routes add is in
-//! `oracle/circuits.rs`, what the elections by multicast flow add in `oracle/flows.rs`, and what ranges of tags add in `oracle/ranges.rs` with the runs of
-//! `oracle/range_runs.rs`. `oracle/beside.rs` is what the last two compare by.
+//! `oracle/circuits.rs`, what the elections by multicast flow add in `oracle/flows.rs`, what ranges of tags add in `oracle/ranges.rs` with the runs of
+//! `oracle/range_runs.rs`, and the second in line in `oracle/backup.rs`, from a list of candidates in `oracle/candidate_list.rs`. `oracle/beside.rs` is what all but
+//! the first compare by, and `oracle/tally.rs` counts what came up.
 
+#[path = "oracle/backup.rs"]
+mod backup;
 #[path = "oracle/beside.rs"]
 mod beside;
+#[path = "oracle/candidate_list.rs"]
+mod candidate_list;
 #[path = "oracle/circuits.rs"]
 mod circuits;
 #[path = "oracle/flows.rs"]
@@ -12,8 +17,10 @@ mod flows;
 mod range_runs;
 #[path = "oracle/ranges.rs"]
 mod ranges;
+#[path = "oracle/tally.rs"]
+mod tally;
 
-use benchmarks::answer::{Address, Answer, Family, Segment, Sent, Verdict};
+use benchmarks::answer::{Address, Answer, Backup, Family, Segment, Sent, Verdict};
 use benchmarks::random::Random;
 use benchmarks::{array, list, proved, records, workload};
 use reference::address;
@@ -63,6 +70,18 @@ fn whole(election: Result<Election, Refusal>) -> Answer {
             candidates: elected.candidates,
         },
         Err(refusal) => Answer::refused(refusal.number()),
+    }
+}
+
+/// Whom the reference names as the whole answer.
+fn named(backup: Result<address::Address, Refusal>) -> Backup {
+    match backup {
+        Ok(address) => Backup {
+            number: 0,
+            family: address.family(),
+            address: words(address),
+        },
+        Err(refusal) => Backup::refused(refusal.number()),
     }
 }
 

@@ -1,9 +1,10 @@
 //! A side beside the reference: each call is made on both, its answer is compared, and after it what the side lets one see of its state, which is all the words
 //! of the proved side. Of a baseline nothing is seen but answers.
 
-use crate::{ours, returning, theirs, whole, words};
-use benchmarks::answer::{Address, Answer, Circuit, Circuits, Segment, Sent, Verdict};
+use crate::{named, ours, returning, theirs, whole, words};
+use benchmarks::answer::{Address, Answer, Backup, Circuit, Circuits, Segment, Sent, Verdict};
 use benchmarks::{array, list, proved, workload};
+use reference::backup;
 use reference::circuits as ad_routes;
 use reference::election;
 use reference::flows as rules;
@@ -266,6 +267,24 @@ impl<T: Segment + State> Beside<T> {
         };
         let told = self.told(query, tag, ready);
         assert_eq!(answer, told, "{place}: {query:?}, tag {tag}");
+        answer
+    }
+
+    /// Names the backup by a ready list on both, and gives the answer.
+    pub fn name_backup(&self, tag: u32, ready: &[u32], place: &str) -> Backup {
+        let told = named(backup::name_rows(&self.table, tag, ready));
+        let answer = self.side.name_backup(tag, ready);
+        assert_eq!(answer, told, "{place}: backup, tag {tag}");
+        self.same_state(place);
+        answer
+    }
+
+    /// The same over both tables.
+    pub fn name_backup_by_circuits(&self, tag: u32, place: &str) -> Backup {
+        let told = backup::name_by_circuits(&self.table, &self.circuits, tag);
+        let answer = self.side.name_backup_by_circuits(&self.side_circuits, tag);
+        assert_eq!(answer, named(told), "{place}: backup over both, tag {tag}");
+        self.same_state(place);
         answer
     }
 

@@ -83,13 +83,17 @@ impl Circuits {
     }
 }
 
+/// The routers of the route table that are ready for a tag. They are at most 64.
+pub(crate) fn ready_routers(table: &Table, circuits: &Circuits, tag: u32) -> Vec<Address> {
+    let routers = table.entries().iter().map(|entry| entry.address);
+    routers
+        .filter(|address| circuits.is_ready(*address, tag))
+        .collect()
+}
+
 /// The election over both tables: document 01's, with the list of those routers of the route table
 /// that are ready. So the list has at most 64 and 11 does not occur; the numbers and the ranges that
 /// are set act as they do there.
 pub fn elect(table: &Table, circuits: &Circuits, tag: u32) -> Result<Election, Refusal> {
-    let routers = table.entries().iter().map(|entry| entry.address);
-    let ready: Vec<Address> = routers
-        .filter(|address| circuits.is_ready(*address, tag))
-        .collect();
-    election::elect(table, tag, &ready)
+    election::elect(table, tag, &ready_routers(table, circuits, tag))
 }

@@ -78,22 +78,41 @@ pub(crate) fn check(tag: u32, ready: &Ready) -> Result<(), Refusal> {
     Ok(())
 }
 
-/// The plain election. Under an agreement on a number that is set it uses algorithm 1; under 2 or 3
-/// a tag inside a range that is set gets the algorithm that the range names.
+/// The plain election.
 pub(crate) fn elect_listed(table: &Table, tag: u32, ready: &Ready) -> Result<Election, Refusal> {
     check(tag, ready)?;
+    let (algorithm, ac_df) = plain_algorithm(table, tag);
+    elect_among(table, algorithm, ac_df, ready, |eligible| {
+        winner(table, algorithm, tag, eligible)
+    })
+}
+
+/// The algorithm that a plain query for a tag goes by, and whether AC-DF is in use. Under an
+/// agreement on a number that is set it is algorithm 1; under 2 or 3 a tag inside a range that is
+/// set gets the algorithm that the range names.
+pub(crate) fn plain_algorithm(table: &Table, tag: u32) -> (u8, bool) {
     let (agreed, ac_df) = algorithm_in_use(table);
     let for_all_tags = if agreed <= LOWEST_PREFERENCE {
         agreed
     } else {
         HIGHEST_RANDOM_WEIGHT
     };
-    let algorithm = table.ranges().overriding(for_all_tags, tag);
-    elect_among(table, algorithm, ac_df, ready, |eligible| match algorithm {
-        HIGHEST_RANDOM_WEIGHT => by_weight(eligible, hrw::digest(tag, table.esi())),
-        HIGHEST_PREFERENCE | LOWEST_PREFERENCE => by_preference(eligible, algorithm),
-        _ => by_modulus(eligible, tag),
-    })
+    (table.ranges().overriding(for_all_tags, tag), ac_df)
+}
+
+/// Which of these routes wins under an algorithm, 0 to 3.
+pub(crate) fn winner(table: &Table, algorithm: u8, tag: u32, routes: &[Entry]) -> Option<Entry> {
+    match algorithm {
+        HIGHEST_RANDOM_WEIGHT => by_weight(routes, hrw::digest(tag, table.esi())),
+        HIGHEST_PREFERENCE | LOWEST_PREFERENCE => by_preference(routes, algorithm),
+        _ => by_modulus(routes, tag),
+    }
+}
+
+/// The routes that are eligible, in rising address order.
+pub(crate) fn eligible(table: &Table, ac_df: bool, ready: &Ready) -> Vec<Entry> {
+    let candidates = candidate_set(table.entries(), ac_df, &ready.addresses);
+    members(table.entries(), candidates)
 }
 
 /// The answer under an algorithm, whose rule says which of the eligible wins; none eligible, 12.

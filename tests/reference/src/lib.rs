@@ -6,7 +6,7 @@
 //! CRC goes bit by bit, the weight is computed over numbers that cannot run over.
 //!
 //! One module for each section of document 01, one for addresses, one for Ethernet A-D routes, one
-//! for multicast flows and one for ranges of tags:
+//! for multicast flows, one for ranges of tags and one for the second in line:
 //!
 //! - `refusal`: the refusal numbers
 //! - `address`: addresses of both families, and their order
@@ -20,12 +20,14 @@
 //! - `flows`: the elections by multicast flow, and the numbers set for them
 //! - `ranges`: the ranges of tags that override Highest or Lowest
 //! - `returning`: the preference of a returning router
+//! - `backup`: the second in line, from the table or from a list of candidates
 //! - `bench`: the bench program
 //! - `encode`: text lines to bench records, for a person at the bench
 
 #![forbid(unsafe_code)]
 
 pub mod address;
+pub mod backup;
 pub mod bench;
 pub mod circuits;
 pub mod community;

@@ -21,6 +21,7 @@ pub enum Refusal {
     BadRecord = 16,
     FlowLength = 18,
     Ranges = 20,
+    CandidateList = 22,
 }
 
 impl Refusal {

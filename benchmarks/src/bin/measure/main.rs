@@ -4,10 +4,12 @@
 //! - `sides`: the three sides of a comparison
 //! - `rows`: the rows of the table, each rounds of calls
 //! - `ranges`: rows in pairs, without ranges of tags and with them, for a table of their own
+//! - `backups`: rows in pairs, an election and the backup named, for a table of their own
 //! - `cost`: instructions and time of a call, by the difference of 2K and K rounds
 //! - `programs`: the bench program's rows
 //! - `print`: the tables
 
+mod backups;
 mod cost;
 mod print;
 mod programs;
@@ -24,6 +26,8 @@ fn main() -> io::Result<()> {
     let mut rows = rows::all();
     let of_the_table = rows.len();
     rows.extend(ranges::pairs());
+    let with_ranges = rows.len();
+    rows.extend(backups::pairs());
     let (timed, folder, program) = match words[1..] {
         ["counted"] => {
             cost::be_counted(&rows);
@@ -43,10 +47,19 @@ fn main() -> io::Result<()> {
 
     rows::check(&rows);
     let counts = cost::counts(folder, &rows)?;
-    let (rows, pairs) = rows.split_at(of_the_table);
-    print::counts(rows, &counts[..of_the_table]);
-    print::with_ranges(pairs, &counts[of_the_table..]);
+    print::counts(&rows[..of_the_table], &counts[..of_the_table]);
+    print::pairs(
+        &rows[of_the_table..with_ranges],
+        &counts[of_the_table..with_ranges],
+        &ranges::RATIO,
+    );
+    print::pairs(
+        &rows[with_ranges..],
+        &counts[with_ranges..],
+        &backups::RATIO,
+    );
     if timed {
+        let rows = &rows[..of_the_table];
         print::times(rows, &cost::times(rows));
     }
     print::programs(&programs::measured(folder, program, timed)?);

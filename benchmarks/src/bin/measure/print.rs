@@ -3,8 +3,7 @@
 
 use crate::cost::Costs;
 use crate::programs::Program;
-use crate::ranges;
-use crate::rows::{Measure, Row, Target};
+use crate::rows::{Measure, Ratio, Row, Target};
 use crate::sides::SIDES;
 use benchmarks::workload::Families;
 
@@ -43,12 +42,12 @@ fn table(rows: &[Row], measured: &[Costs], measure: Measure) {
     println!("\nTargets by {word} met: {met} of {judged}.\n");
 }
 
-/// A table of instructions of rows in pairs, without ranges of tags and with them: each side's ratio of its own cost, of which ours is judged.
-pub fn with_ranges(rows: &[Row], counts: &[Costs]) {
+/// A table of instructions of rows in pairs: each side's cost of the second as a ratio of its own cost of the first, of which ours is judged.
+pub fn pairs(rows: &[Row], counts: &[Costs], ratio: &Ratio) {
     let mut names = ["Call", "Addresses", "Routes"].map(String::from).to_vec();
     for side in &SIDES {
-        names.push(format!("{} ins, no range", side.name));
-        names.extend(["16 ranges", "ratio"].map(String::from));
+        names.push(format!("{} ins, {}", side.name, ratio.first));
+        names.extend([ratio.second, "ratio"].map(String::from));
     }
     names.extend(["Target", ""].map(String::from));
     line(&names);
@@ -56,19 +55,19 @@ pub fn with_ranges(rows: &[Row], counts: &[Costs]) {
     let (mut judged, mut met) = (0, 0);
     for (two, costs) in rows.chunks_exact(2).zip(counts.chunks_exact(2)) {
         let mut cells = start(&two[0]);
-        for (without, with) in costs[0].iter().zip(&costs[1]) {
-            cells.push(format!("{without:.0}"));
-            cells.push(format!("{with:.0}"));
-            cells.push(format!("{:.2}", with / without));
+        for (first, second) in costs[0].iter().zip(&costs[1]) {
+            cells.push(format!("{first:.0}"));
+            cells.push(format!("{second:.0}"));
+            cells.push(format!("{:.2}", second / first));
         }
-        let within = costs[1][0] / costs[0][0] <= ranges::MOST;
+        let within = costs[1][0] / costs[0][0] <= ratio.most;
         judged += 1;
         met += usize::from(within);
-        cells.push(format!("{:.2} ours", ranges::MOST));
+        cells.push(format!("{:.2} ours", ratio.most));
         cells.push(if within { "met" } else { "missed" }.into());
         line(&cells);
     }
-    println!("\nTargets with ranges met: {met} of {judged}.\n");
+    println!("\nTargets {} met: {met} of {judged}.\n", ratio.judged);
 }
 
 pub fn programs(programs: &[Program]) {

@@ -1,18 +1,17 @@
 //! Elections with 16 ranges of tags set, each beside the same election with none: the same side, table and tag. So what is judged is a side's cost with
 //! ranges as a ratio of its own without them.
 
-use crate::rows::{row, Measure, Row, Table, Target, SIZES};
+use crate::rows::{row, Ratio, Row, Table, NOT_BESIDE, SIZES};
 use benchmarks::random::Random;
 use benchmarks::rounds::Work;
 use benchmarks::workload::{self, Families, ESI};
 
 /// The most that ours may cost with ranges of what it costs without.
-pub const MOST: f64 = 1.15;
-
-/// Nothing is asked beside the other sides.
-const NONE: Target = Target {
-    measure: Measure::Instructions,
-    most: [None, None],
+pub const RATIO: Ratio = Ratio {
+    first: "no range",
+    second: "16 ranges",
+    judged: "with ranges",
+    most: 1.15,
 };
 
 /// Rows in pairs: without ranges, and with them. Where a range names the other algorithm, the election goes by that one's rule, which costs more or less by
@@ -32,7 +31,7 @@ pub fn pairs() -> Vec<Row> {
                 let name = format!("elect under {algorithm}, tag {lies}");
                 for ranges in [Vec::new(), workload::ranges(algorithm)] {
                     let work = elect(table, algorithm, tag, ranges);
-                    rows.push(row(&name, Some(table), NONE, work));
+                    rows.push(row(&name, Some(table), NOT_BESIDE, work));
                 }
             }
         }

@@ -1,10 +1,10 @@
 //! The rows of the table: a name, the routes and their families, rounds of calls, and the most that ours may cost.
 
 use crate::sides::SIDES;
-use benchmarks::answer::{Address, Family};
+use benchmarks::answer::{Address, Circuit, Family};
 use benchmarks::random::Random;
 use benchmarks::rounds::Work;
-use benchmarks::workload::{self, Families, ESI, FLOW_ALGORITHMS};
+use benchmarks::workload::{self, Families, Run, ESI, FLOW_ALGORITHMS};
 
 pub const SIZES: [usize; 4] = [2, 3, 8, 64];
 const FAMILIES: [Families; 3] = [Families::V4, Families::V6, Families::Mixed];
@@ -32,6 +32,11 @@ const fn by_instructions(of_array: f64, of_list: Option<f64>) -> Target {
 }
 
 const DIGEST: Target = by_instructions(1.6, None);
+/// Nothing is asked beside the other sides.
+pub const NOT_BESIDE: Target = Target {
+    measure: Measure::Instructions,
+    most: [None, None],
+};
 /// Where rows of words move.
 const MOVED: Target = Target {
     measure: Measure::Time,
@@ -61,6 +66,15 @@ fn moving_call(table: Table) -> Target {
     } else {
         every_call(table.families)
     }
+}
+
+/// Rows in pairs: what the first and the second of a pair are called, and the most that ours may cost by the second of what it costs by the first.
+pub struct Ratio {
+    pub first: &'static str,
+    pub second: &'static str,
+    /// What the targets are called that are judged.
+    pub judged: &'static str,
+    pub most: f64,
 }
 
 /// How many routes a table has, and of which families.
@@ -218,23 +232,30 @@ fn elections(rows: &mut Vec<Row>, table: Table) {
     }
 }
 
-/// Elections over both tables. Every router is ready for each of some tags, which have their turns: so many that each router has its turn under
-/// algorithm 0 or, for 64 routers, as many as 256 Ethernet A-D routes have room for.
-fn elections_by_circuits(rows: &mut Vec<Row>, table: Table) {
+/// Announcements, and Ethernet A-D routes by which every router is ready for each of some tags: so many that each router has its turn under algorithm 0
+/// or, for 64 routers, as many as 256 Ethernet A-D routes have room for.
+pub fn with_circuits(table: Table, algorithm: u8) -> (Vec<Run>, Vec<Circuit>, Vec<u32>) {
     let tags: Vec<u32> = match table.routes {
         64 => vec![138, 159, 181],
         8 => (101..=108).collect(),
         _ => (101..=106).collect(),
     };
+    let mut random = Random(3);
+    let addresses = table.addresses(&mut random);
+    let mut circuits = workload::circuits(&addresses, &tags);
+    random.shuffle(&mut circuits);
+    let runs = workload::runs(&ESI, &addresses, algorithm, true, &mut Random(5));
+    (runs, circuits, tags)
+}
+
+/// Elections over both tables. The tags have their turns.
+fn elections_by_circuits(rows: &mut Vec<Row>, table: Table) {
     for algorithm in 0..4 {
-        let mut random = Random(3);
-        let addresses = table.addresses(&mut random);
-        let mut circuits = workload::circuits(&addresses, &tags);
-        random.shuffle(&mut circuits);
+        let (runs, circuits, tags) = with_circuits(table, algorithm);
         let work = Work::ElectByCircuits {
-            runs: workload::runs(&ESI, &addresses, algorithm, true, &mut Random(5)),
+            runs,
             circuits,
-            tags: tags.clone(),
+            tags,
         };
         let name = format!("elect over both tables under {algorithm}");
         rows.push(row(&name, Some(table), every_call(table.families), work));

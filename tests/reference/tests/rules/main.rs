@@ -1,9 +1,10 @@
 //! The tests of the reference: every value of document 01, the worked examples of RFC 9785,
 //! the slips the document names, the order of every list of checks, lengths at their limits,
 //! addresses of both families side by side, Ethernet A-D routes, elections by flow, ranges of tags,
-//! and the three statements of M-107 as properties.
+//! the second in line, and the three statements of M-107 as properties.
 
 mod address;
+mod backup;
 mod bench;
 mod bystanders;
 mod circuits;

@@ -36,6 +36,11 @@ impl Random {
         mixed ^ (mixed >> 31)
     }
 
+    /// Any number of 32 bits.
+    pub fn word(&mut self) -> u32 {
+        self.number() as u32
+    }
+
     /// A number from 0 to `limit` - 1.
     pub fn below(&mut self, limit: usize) -> usize {
         (self.number() % limit as u64) as usize
