@@ -1,11 +1,16 @@
 //! Every side against the reference of tests/: the same random calls, the same answers, call by call. What the Ethernet A-D routes add is in
 //! `oracle/circuits.rs`, what the elections by multicast flow add in `oracle/flows.rs`, and what ranges of tags add in `oracle/ranges.rs` with the runs of
-//! `oracle/range_runs.rs`. `oracle/beside.rs` is what the last two compare by.
+//! `oracle/range_runs.rs`; `oracle/beside.rs` is what the last two compare by. Searches through two dumps of records are in `oracle/dumps.rs`, with the slips of
+//! `oracle/dump_slips.rs`.
 
 #[path = "oracle/beside.rs"]
 mod beside;
 #[path = "oracle/circuits.rs"]
 mod circuits;
+#[path = "oracle/dump_slips.rs"]
+mod dump_slips;
+#[path = "oracle/dumps.rs"]
+mod dumps;
 #[path = "oracle/flows.rs"]
 mod flows;
 #[path = "oracle/range_runs.rs"]
