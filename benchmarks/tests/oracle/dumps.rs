@@ -500,8 +500,8 @@ fn same_as_the_reference(search: impl Fn(&[u8], &[u8], Address) -> Found) {
     for (what, least) in [
         ("0 in dump 1 IPv4", 5_000),
         ("0 in dump 1 IPv6", 5_000),
-        ("0 in dump 2 IPv4", 5_000),
-        ("0 in dump 2 IPv6", 5_000),
+        ("0 in dump 2 IPv4", 4_000),
+        ("0 in dump 2 IPv6", 4_000),
         ("6 IPv4", 5_000),
         ("6 IPv6", 5_000),
         ("9 IPv4", 5_000),
