@@ -1,7 +1,7 @@
 //! Every side against the reference of tests/: the same random calls, the same answers, call by call. What the Ethernet A-D routes add is in
 //! `oracle/circuits.rs`, what the elections by multicast flow add in `oracle/flows.rs`, and what ranges of tags add in `oracle/ranges.rs` with the runs of
 //! `oracle/range_runs.rs`; `oracle/beside.rs` is what the last two compare by. Searches through two dumps of records are in `oracle/dumps.rs`, with the slips of
-//! `oracle/dump_slips.rs`.
+//! `oracle/dump_slips.rs`, and tables written out as records in `oracle/short_logs.rs`.
 
 #[path = "oracle/beside.rs"]
 mod beside;
@@ -17,6 +17,8 @@ mod flows;
 mod range_runs;
 #[path = "oracle/ranges.rs"]
 mod ranges;
+#[path = "oracle/short_logs.rs"]
+mod short_logs;
 
 use benchmarks::answer::{Address, Answer, Family, Segment, Sent, Verdict};
 use benchmarks::random::Random;
