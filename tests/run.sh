@@ -1,7 +1,8 @@
 #!/bin/bash
-# Runs the whole independent test side: run.sh [PROGRAM]
-# PROGRAM is the proved bench program. Without it the reference stands in for it, so that the
-# tests check themselves. The status is not zero if anything fails.
+# Runs the whole independent test side: run.sh [PROGRAM [COMPACT]]
+# PROGRAM is the proved bench program and COMPACT the proved program that makes a log short. The
+# reference stands in for one that is left out, so that the tests check themselves. The status is
+# not zero if anything fails.
 
 set -euo pipefail
 
@@ -26,8 +27,10 @@ if [ ! -f "$program" ] || [ ! -x "$program" ]; then
     exit 1
 fi
 program=$(cd "$(dirname "$program")" && pwd)/$(basename "$program")
+compact=${2:-$release/compact_reference}
 
 "$here/examples/run.sh" "$release/encode" "$program"
+"$here/compact.sh" "$compact" "$program"
 timeout 60 python3 "$here/hrw/check.py" "$program"
 timeout 480 "$here/differential/target/release/differential" "$reference" "$program"
-echo "run.sh: all passed for $(basename "$program")"
+echo "run.sh: all passed for $(basename "$program") and $(basename "$compact")"

@@ -1,6 +1,6 @@
 //! The calls that every side of a comparison has, and their answers. Document 01, "The table", "The election", "The returning router"; document 02,
 //! M-102 for the Ethernet A-D routes, M-103 for the place, M-105 for addresses of both families, M-106 for elections by multicast flow, M-109 for ranges
-//! of tags and M-113 for the second in line. The structs that are answered are laid out as in C, so that the proved calls can answer them.
+//! of tags, M-111 for dumps of records and M-113 for the second in line. The structs that are answered are laid out as in C, so that the proved calls can answer them.
 
 /// The words of a row of a ready list: the family, 4 or 6, then the words of an address. A row of another family is a stranger; words after the last
 /// whole row are no row.
@@ -126,6 +126,25 @@ pub struct Sent {
     pub number: u8,
     pub preference: u16,
     pub dp: bool,
+}
+
+/// What a search through two dumps answers: 0 and the octets of a record, or a refusal number and zeros. The dump is 1 or 2; the record starts in it at `start`
+/// and has `length` octets, mark and length included.
+#[derive(Clone, Copy, Debug, Default, PartialEq, Eq)]
+pub struct Found {
+    pub number: u8,
+    pub dump: u8,
+    pub start: usize,
+    pub length: usize,
+}
+
+impl Found {
+    pub fn refused(number: u8) -> Found {
+        Found {
+            number,
+            ..Found::default()
+        }
+    }
 }
 
 impl Verdict {

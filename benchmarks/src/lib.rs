@@ -5,6 +5,7 @@
 //! - `octets`: what both baselines read from octets and words in the same way
 //! - `array`: baseline (a), sorted arrays updated in place
 //! - `list`: baseline (b), a doubly linked list of heap nodes
+//! - `dumps`: the baseline of a search through two dumps of records
 //! - `called`: a baseline whose calls are never inlined
 //! - `rounds`: the rounds of calls that are counted, timed and compared
 //! - `records`: the bench program over a baseline, and the generator of a long run of records
@@ -14,6 +15,7 @@
 pub mod answer;
 pub mod array;
 pub mod called;
+pub mod dumps;
 pub mod list;
 pub mod octets;
 pub mod proved;

@@ -6,8 +6,8 @@ use crate::random::Random;
 use crate::workload::{self, Families};
 use std::io::{self, Read, Write};
 
-const MARK: [u8; 2] = [0xD5, 0x4F];
-const HEADER: usize = 4;
+pub const MARK: [u8; 2] = [0xD5, 0x4F];
+pub const HEADER: usize = 4;
 const BLOCK: usize = 1 << 16;
 const LONGEST_RECORD: usize = HEADER + 255;
 /// A query's answer of an IPv6 address has 40 characters at most, and a number is written with room for four.
@@ -63,7 +63,7 @@ fn whole_record(octets: &[u8]) -> Option<&[u8]> {
 
 /// The route octets of an announcement, 37 where octet 20 is 128 and else 25, and the communities; none if there are fewer.
 #[inline]
-fn split_route(octets: &[u8]) -> Option<(&[u8], &[u8])> {
+pub fn split_route(octets: &[u8]) -> Option<(&[u8], &[u8])> {
     let length = match octets.get(20) {
         Some(128) => 37,
         _ => 25,
@@ -325,6 +325,17 @@ pub fn generated(records: usize, seed: u64) -> Vec<u8> {
         }
     }
     run.octets
+}
+
+/// Two dumps of so many records each, and addresses of both families to look for in them: one of each dump, and one that neither has.
+pub fn dumps(records: usize) -> (Vec<u8>, Vec<u8>, Vec<Address>) {
+    let [first, second] = [8, 9].map(|seed| generated(records, seed));
+    let mut addresses = Vec::new();
+    for run in [Generator::new(8), Generator::new(9)] {
+        addresses.extend([run.v4[40], run.v6[40]]);
+    }
+    addresses.extend([Address::v4(0x0B00_0001), Address::v6(0x2001_0DB9 << 96 | 1)]);
+    (first, second, addresses)
 }
 
 /// A run of records while it is written, and what the present thousand draws from.

@@ -33,15 +33,18 @@ pub struct Flow {
 
 /// The octets of an address, 4 or 16.
 pub fn octets(address: Address) -> Vec<u8> {
-    let octets: Vec<u8> = address
-        .words
-        .iter()
-        .flat_map(|word| word.to_be_bytes())
-        .collect();
+    let octets = sixteen_octets(address);
     match address.family {
         Family::V4 => octets[..4].to_vec(),
-        Family::V6 => octets,
+        Family::V6 => octets.to_vec(),
     }
+}
+
+/// The octets of the four words of an address.
+#[inline]
+pub fn sixteen_octets(address: Address) -> [u8; 16] {
+    let [a, b, c, d] = address.words.map(u128::from);
+    (a << 96 | b << 64 | c << 32 | d).to_be_bytes()
 }
 
 /// The octets of a route, 25 or 37.

@@ -1,7 +1,8 @@
 //! Every side against the reference of tests/: the same random calls, the same answers, call by call. What the Ethernet A-D routes add is in
 //! `oracle/circuits.rs`, what the elections by multicast flow add in `oracle/flows.rs`, what ranges of tags add in `oracle/ranges.rs` with the runs of
 //! `oracle/range_runs.rs`, and the second in line in `oracle/backup.rs`, from a list of candidates in `oracle/candidate_list.rs`. `oracle/beside.rs` is what all but
-//! the first compare by, and `oracle/tally.rs` counts what came up.
+//! the first compare by, and `oracle/tally.rs` counts what came up. Searches through two dumps of records are in `oracle/dumps.rs`, with the slips of
+//! `oracle/dump_slips.rs`, and tables written out as records in `oracle/short_logs.rs`.
 
 #[path = "oracle/backup.rs"]
 mod backup;
@@ -11,12 +12,18 @@ mod beside;
 mod candidate_list;
 #[path = "oracle/circuits.rs"]
 mod circuits;
+#[path = "oracle/dump_slips.rs"]
+mod dump_slips;
+#[path = "oracle/dumps.rs"]
+mod dumps;
 #[path = "oracle/flows.rs"]
 mod flows;
 #[path = "oracle/range_runs.rs"]
 mod range_runs;
 #[path = "oracle/ranges.rs"]
 mod ranges;
+#[path = "oracle/short_logs.rs"]
+mod short_logs;
 #[path = "oracle/tally.rs"]
 mod tally;
 

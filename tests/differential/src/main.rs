@@ -6,10 +6,15 @@
 //! `differential --input FAMILY INDEX` writes one input to standard output, `differential --list`
 //! the names of the families.
 //!
-//! The two programs are taken as they are: nothing here shares code with either.
+//! `differential --compact REFERENCE TESTED BENCH` compares two programs that make a log short, and
+//! the short logs with the whole ones by what the bench program BENCH prints when both go on.
+//!
+//! The programs are taken as they are: nothing here shares code with any.
 
 #![forbid(unsafe_code)]
 
+mod compact;
+mod crew;
 mod pools;
 mod random;
 mod record;
@@ -20,16 +25,13 @@ mod segment;
 mod systematic;
 mod systematic_v6;
 
+use crew::Stopped;
 use random::seed_of;
 use runner::Slot;
 use std::env::args;
 use std::io::{stdout, Write};
 use std::path::{Path, PathBuf};
 use std::process::ExitCode;
-use std::sync::atomic::{AtomicBool, AtomicUsize, Ordering};
-use std::sync::Mutex;
-use std::thread;
-use std::time::Duration;
 
 /// Makes an input from a seed or from an index.
 type Make = fn(u64) -> Vec<u8>;
@@ -73,16 +75,12 @@ fn all_families() -> Vec<Family> {
         .collect()
 }
 
-/// The two programs, the inputs still to run, and what has been found.
+/// The two programs, and the inputs that both run on.
 struct Comparison {
     reference: PathBuf,
     tested: PathBuf,
     families: Vec<Family>,
     jobs: Vec<(usize, u64)>,
-    next: AtomicUsize,
-    compared: AtomicUsize,
-    stop: AtomicBool,
-    finding: Mutex<Option<String>>,
 }
 
 impl Comparison {
@@ -97,33 +95,13 @@ impl Comparison {
             tested: PathBuf::from(tested),
             families,
             jobs,
-            next: AtomicUsize::new(0),
-            compared: AtomicUsize::new(0),
-            stop: AtomicBool::new(false),
-            finding: Mutex::new(None),
-        }
-    }
-
-    /// Takes inputs until there are no more or a difference is found.
-    fn work(&self, slot: &Slot) {
-        while !self.stop.load(Ordering::Relaxed) {
-            let job = self.next.fetch_add(1, Ordering::Relaxed);
-            let Some((place, index)) = self.jobs.get(job) else {
-                return;
-            };
-            if let Err(finding) = self.compare(slot, &self.families[*place], *index) {
-                self.stop.store(true, Ordering::Relaxed);
-                if let Ok(mut first) = self.finding.lock() {
-                    first.get_or_insert(finding);
-                }
-                return;
-            }
-            self.compared.fetch_add(1, Ordering::Relaxed);
         }
     }
 
     /// Runs both programs on one input.
-    fn compare(&self, slot: &Slot, family: &Family, index: u64) -> Result<(), String> {
+    fn compare(&self, slot: &Slot, job: usize) -> Result<(), String> {
+        let (place, index) = self.jobs[job];
+        let family = &self.families[place];
         let input = family.input(index);
         let run = |program: &Path, piece| {
             slot.run(program, &input, piece)
@@ -160,6 +138,7 @@ fn main() -> ExitCode {
     match words[..] {
         ["--input", family, index] => write_input(family, index),
         ["--list"] => list_families(),
+        ["--compact", reference, tested, bench] => compact::compare_all(reference, tested, bench),
         [reference, tested, ref names @ ..] => match named_families(names) {
             Ok(families) => compare_all(&Comparison::new(reference, tested, families)),
             Err(name) => {
@@ -170,7 +149,8 @@ fn main() -> ExitCode {
         _ => {
             eprintln!(
                 "usage: differential REFERENCE TESTED [FAMILY..] | differential --list | \
-                 differential --input FAMILY INDEX"
+                 differential --input FAMILY INDEX | \
+                 differential --compact REFERENCE TESTED BENCH"
             );
             ExitCode::FAILURE
         }
@@ -208,44 +188,18 @@ fn write_input(name: &str, index: &str) -> ExitCode {
     ExitCode::SUCCESS
 }
 
-/// Runs all inputs in several threads, with a watch over them, and prints the summary.
+/// Runs all inputs and prints the summary.
 fn compare_all(comparison: &Comparison) -> ExitCode {
-    let workers = thread::available_parallelism().map_or(2, |count| count.get().clamp(2, 8));
-    let slots: Vec<Slot> = (0..workers).map(|_| Slot::default()).collect();
-    let done = AtomicBool::new(false);
-    thread::scope(|scope| {
-        scope.spawn(|| watch(&slots, &done));
-        thread::scope(|inner| {
-            for slot in &slots {
-                inner.spawn(|| comparison.work(slot));
-            }
-        });
-        done.store(true, Ordering::Relaxed);
-    });
-    let compared = comparison.compared.load(Ordering::Relaxed);
-    match comparison.finding.lock() {
-        Ok(finding) if finding.is_none() && compared == comparison.jobs.len() => {
-            println!("differential: {compared} inputs compared, 0 differences");
+    let count = comparison.jobs.len();
+    match crew::all(count, |slot, job| comparison.compare(slot, job)) {
+        Ok(()) => {
+            println!("differential: {count} inputs compared, 0 differences");
             ExitCode::SUCCESS
         }
-        Ok(finding) => {
-            println!(
-                "{}",
-                finding.as_deref().unwrap_or("not all inputs were run")
-            );
-            println!("differential: {compared} inputs compared, then stopped");
+        Err(Stopped { done, finding }) => {
+            println!("{finding}");
+            println!("differential: {done} inputs compared, then stopped");
             ExitCode::FAILURE
-        }
-        Err(_) => ExitCode::FAILURE,
-    }
-}
-
-/// Looks at the runs under way until all is done.
-fn watch(slots: &[Slot], done: &AtomicBool) {
-    while !done.load(Ordering::Relaxed) {
-        thread::sleep(Duration::from_millis(100));
-        for slot in slots {
-            slot.watch();
         }
     }
 }

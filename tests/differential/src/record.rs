@@ -59,6 +59,21 @@ pub fn record(kind: u8, body: &[u8]) -> Vec<u8> {
     octets
 }
 
+/// Where the whole records at the start of the octets end, by their marks and lengths alone; the
+/// start is the first of these places.
+pub fn ends(octets: &[u8]) -> Vec<usize> {
+    let mut ends = vec![0];
+    let mut end = 0;
+    while let [0xD5, 0x4F, _, length, body @ ..] = &octets[end..] {
+        if body.len() < usize::from(*length) {
+            break;
+        }
+        end += 4 + usize::from(*length);
+        ends.push(end);
+    }
+    ends
+}
+
 /// The text of an identifier in lower case.
 pub fn esi_text(esi: &Esi) -> Vec<u8> {
     let pairs: Vec<String> = esi.iter().map(|octet| format!("{octet:02x}")).collect();

@@ -39,7 +39,7 @@ fn first_different_line(left: &[u8], right: &[u8]) -> usize {
 }
 
 /// The input in hex; a very long one only in part.
-fn hex(input: &[u8]) -> String {
+pub fn hex(input: &[u8]) -> String {
     let shown = &input[..input.len().min(MAX_HEX)];
     let mut text: String = shown.iter().map(|octet| format!("{octet:02X}")).collect();
     if shown.len() < input.len() {

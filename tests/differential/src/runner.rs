@@ -1,4 +1,4 @@
-//! Runs a bench program on an input and takes its output. A run that takes too long is ended by
+//! Runs a program on an input and takes its output. A run that takes too long is ended by
 //! a watch, so that the whole test ends in bounded time.
 
 use std::io::{self, Read, Write};
@@ -43,27 +43,52 @@ impl Slot {
 
     /// Runs the program on the input, which is handed over in pieces of `piece` octets.
     pub fn run(&self, program: &Path, input: &[u8], piece: usize) -> io::Result<Outcome> {
+        let (outcome, _) = self.run_with(Stdio::inherit(), program, input, piece)?;
+        Ok(outcome)
+    }
+
+    /// The same, and what the program said on standard error.
+    pub fn run_and_hear(
+        &self,
+        program: &Path,
+        input: &[u8],
+        piece: usize,
+    ) -> io::Result<(Outcome, Vec<u8>)> {
+        self.run_with(Stdio::piped(), program, input, piece)
+    }
+
+    fn run_with(
+        &self,
+        stderr: Stdio,
+        program: &Path,
+        input: &[u8],
+        piece: usize,
+    ) -> io::Result<(Outcome, Vec<u8>)> {
         let mut child = Command::new(program)
             .stdin(Stdio::piped())
             .stdout(Stdio::piped())
+            .stderr(stderr)
             .spawn()?;
         let stdin = child.stdin.take();
         let stdout = child.stdout.take();
+        let stderr = child.stderr.take();
         *self.lock() = Some((Instant::now(), child));
         let limit = OUTPUT_FACTOR * input.len() as u64 + OUTPUT_SPARE;
         let mut output = Vec::new();
+        let mut said = Vec::new();
         thread::scope(|scope| {
             scope.spawn(|| feed(stdin, input, piece));
-            match stdout {
-                Some(stdout) => stdout.take(limit).read_to_end(&mut output),
-                None => Ok(0),
+            if let Some(stdout) = stdout {
+                stdout.take(limit).read_to_end(&mut output)?;
             }
+            if let Some(stderr) = stderr {
+                stderr.take(limit).read_to_end(&mut said)?;
+            }
+            Ok::<(), io::Error>(())
         })?;
         let status = self.wait()?;
-        Ok(Outcome {
-            output,
-            ended: status.is_some_and(|status| status.code().is_some()),
-        })
+        let ended = status.is_some_and(|status| status.code().is_some());
+        Ok((Outcome { output, ended }, said))
     }
 
     /// Waits for the run to end. The watch must not be kept out, so it looks again and again.

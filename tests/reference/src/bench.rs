@@ -1,81 +1,82 @@
 //! The bench program: records in, one line each out. Document 01, "The bench program"; document
-//! 02, M-103 (places on lines) and M-105 (kinds 4 and 5, IPv6 routes and answers).
+//! 02, M-103 (places on lines) and M-105 (IPv6 routes and answers). What a record is, and which one
+//! is bad, stands in `record`.
 //!
-//! A record is the mark D5 4F, a kind octet, a length octet and that many octets. Records are
-//! taken one by one, so memory does not grow with the input.
+//! Records are taken one by one, so memory does not grow with the input.
 
-use crate::address::{Address, V4_LENGTH, V6_LENGTH};
+use crate::address::Address;
 use crate::election;
 use crate::esi;
+use crate::record::{self, Record, HEADER_LENGTH, MAX_BODY};
 use crate::refusal::{answer_number, Refusal};
-use crate::route::{self, ADDRESS_BITS_PLACE, V4_ROUTE_LENGTH, V6_BITS, V6_ROUTE_LENGTH};
+use crate::route;
 use crate::table::Table;
 use std::io::{self, ErrorKind, Read, Write};
 use std::net::Ipv4Addr;
 
-pub const MARK: [u8; 2] = [0xD5, 0x4F];
-pub const KIND_ESI: u8 = 0;
-pub const KIND_ANNOUNCEMENT: u8 = 1;
-pub const KIND_WITHDRAWAL: u8 = 2;
-pub const KIND_QUERY: u8 = 3;
-pub const KIND_V6_WITHDRAWAL: u8 = 4;
-pub const KIND_V6_QUERY: u8 = 5;
-pub const MAX_BODY: usize = 255;
-
-const HEADER_LENGTH: usize = 4;
-const TAG_LENGTH: usize = 4;
-
-/// What stands next in the input.
-enum Next {
-    End,
-    Bad,
-    Record { kind: u8, length: usize },
-}
-
-/// The line that a record prints, and whether the run goes on after it.
-enum Outcome {
-    GoOn(String),
-    Stop(String),
+/// What a run came to: the table at the end of its input, or why it ended before.
+pub enum End {
+    /// The input was empty.
+    NoRecord,
+    /// The text of the first record was refused.
+    Refused(Refusal),
+    BadRecord,
+    Table(Table),
 }
 
 /// Runs the bench program from input to output and flushes the output.
 pub fn run(input: &mut impl Read, output: &mut impl Write) -> io::Result<()> {
-    let mut table = None;
-    let mut body = [0; MAX_BODY];
+    play(input, output)?;
+    Ok(())
+}
+
+/// The same, and what the run came to.
+pub fn play(input: &mut impl Read, output: &mut impl Write) -> io::Result<End> {
+    let end = play_records(input, output)?;
+    output.flush()?;
+    Ok(end)
+}
+
+fn play_records(input: &mut impl Read, output: &mut impl Write) -> io::Result<End> {
+    let mut octets = [0; HEADER_LENGTH + MAX_BODY];
+    let mut table = match next_record(input, &mut octets)? {
+        0 => return Ok(End::NoRecord),
+        got => match record::read(&octets[..got], true) {
+            Ok((Record::Esi { text }, _)) => match take_esi(text, output)? {
+                Ok(table) => table,
+                Err(refusal) => return Ok(End::Refused(refusal)),
+            },
+            _ => return bad_record(output),
+        },
+    };
     loop {
-        let outcome = match next_record(input, &mut body)? {
-            Next::End => return output.flush(),
-            Next::Bad => bad_record(),
-            Next::Record { kind, length } => take_record(&mut table, kind, &body[..length]),
+        let got = next_record(input, &mut octets)?;
+        if got == 0 {
+            return Ok(End::Table(table));
+        }
+        let line = match record::read(&octets[..got], false) {
+            Ok((record, _)) => take_record(&mut table, &record),
+            Err(_) => None,
         };
-        match outcome {
-            Outcome::GoOn(line) => writeln!(output, "{line}")?,
-            Outcome::Stop(line) => {
-                writeln!(output, "{line}")?;
-                return output.flush();
-            }
+        match line {
+            Some(line) => writeln!(output, "{line}")?,
+            None => return bad_record(output),
         }
     }
 }
 
-/// Reads one record; its octets go to the start of `body`. A wrong mark or a cut record is bad.
-fn next_record(input: &mut impl Read, body: &mut [u8; MAX_BODY]) -> io::Result<Next> {
-    let mut header = [0; HEADER_LENGTH];
-    let got = fill(input, &mut header)?;
-    if got == 0 {
-        return Ok(Next::End);
+/// Reads the octets of one record, or as many of them as there are; answers their number.
+fn next_record(
+    input: &mut impl Read,
+    octets: &mut [u8; HEADER_LENGTH + MAX_BODY],
+) -> io::Result<usize> {
+    let (header, body) = octets.split_at_mut(HEADER_LENGTH);
+    let got = fill(input, header)?;
+    if got < HEADER_LENGTH {
+        return Ok(got);
     }
-    if got < HEADER_LENGTH || header[..2] != MARK {
-        return Ok(Next::Bad);
-    }
-    let length = usize::from(header[3]);
-    if fill(input, &mut body[..length])? < length {
-        return Ok(Next::Bad);
-    }
-    Ok(Next::Record {
-        kind: header[2],
-        length,
-    })
+    let length = usize::from(header[HEADER_LENGTH - 1]);
+    Ok(HEADER_LENGTH + fill(input, &mut body[..length])?)
 }
 
 /// Reads until the buffer is full or the input ends; answers the number of octets read.
@@ -92,42 +93,37 @@ fn fill(input: &mut impl Read, buffer: &mut [u8]) -> io::Result<usize> {
     Ok(got)
 }
 
-/// One whole record. The table is there exactly after an accepted first record.
-fn take_record(table: &mut Option<Table>, kind: u8, octets: &[u8]) -> Outcome {
-    let Some(known) = table else {
-        return take_first_record(table, kind, octets);
-    };
-    match kind {
-        KIND_ANNOUNCEMENT => take_announcement(known, octets),
-        KIND_WITHDRAWAL => take_withdrawal(known, octets, V4_LENGTH),
-        KIND_QUERY => take_query(known, octets, V4_LENGTH),
-        KIND_V6_WITHDRAWAL => take_withdrawal(known, octets, V6_LENGTH),
-        KIND_V6_QUERY => take_query(known, octets, V6_LENGTH),
-        _ => bad_record(),
-    }
+/// The line of a bad record, which ends the run.
+fn bad_record(output: &mut impl Write) -> io::Result<End> {
+    writeln!(output, "x {}", Refusal::BadRecord.number())?;
+    Ok(End::BadRecord)
 }
 
-/// The first record must carry the identifier of the segment.
-fn take_first_record(table: &mut Option<Table>, kind: u8, octets: &[u8]) -> Outcome {
-    match kind {
-        KIND_ESI => take_esi(table, octets),
-        _ => bad_record(),
-    }
+/// The text of the identifier: its line, and the table of the segment. If it is refused, the run
+/// ends.
+fn take_esi(text: &[u8], output: &mut impl Write) -> io::Result<Result<Table, Refusal>> {
+    let esi = esi::read_text(text);
+    let line = with_place('p', answer_number(&esi), esi::text_place(text));
+    writeln!(output, "{line}")?;
+    Ok(esi.map(|esi| Table::fresh(&esi).1))
 }
 
-fn bad_record() -> Outcome {
-    Outcome::Stop(format!("x {}", Refusal::BadRecord.number()))
-}
-
-/// The text of the identifier. If it is refused, the run ends.
-fn take_esi(table: &mut Option<Table>, text: &[u8]) -> Outcome {
-    match esi::read_text(text) {
-        Ok(esi) => {
-            let (answer, fresh) = Table::fresh(&esi);
-            *table = Some(fresh);
-            Outcome::GoOn(with_place('p', answer_number(&answer), 0))
+/// The line of a later record; an identifier is none.
+fn take_record(table: &mut Table, record: &Record) -> Option<String> {
+    match record {
+        Record::Esi { .. } => None,
+        Record::Announcement { route, communities } => {
+            let number = answer_number(&table.announce(route, communities));
+            Some(with_place('a', number, route::place(route)))
         }
-        Err(refusal) => Outcome::Stop(with_place('p', refusal.number(), esi::text_place(text))),
+        Record::Withdrawal(address) => {
+            let number = answer_number(&table.withdraw(*address));
+            Some(format!("w {number}"))
+        }
+        Record::Query { tag, ready } => Some(match election::elect(table, *tag, ready) {
+            Ok(elected) => format!("q 0 {} {}", printed(elected.address), elected.count),
+            Err(refusal) => format!("q {}", refusal.number()),
+        }),
     }
 }
 
@@ -137,55 +133,6 @@ fn with_place(letter: char, number: u8, place: usize) -> String {
         1..=4 | 6 | 13 => format!("{letter} {number} {place}"),
         _ => format!("{letter} {number}"),
     }
-}
-
-/// A route of 25 octets or, where octet 20 is 128, of 37; then the communities.
-fn take_announcement(table: &mut Table, octets: &[u8]) -> Outcome {
-    if octets.len() < V4_ROUTE_LENGTH {
-        return bad_record();
-    }
-    let length = match octets[ADDRESS_BITS_PLACE] {
-        V6_BITS => V6_ROUTE_LENGTH,
-        _ => V4_ROUTE_LENGTH,
-    };
-    if octets.len() < length {
-        return bad_record();
-    }
-    let (octets, communities) = octets.split_at(length);
-    let answer = table.announce(octets, communities);
-    let place = route::place(octets);
-    Outcome::GoOn(with_place('a', answer_number(&answer), place))
-}
-
-/// A withdrawal of an address of so many octets.
-fn take_withdrawal(table: &mut Table, octets: &[u8], length: usize) -> Outcome {
-    match Address::from_octets(octets) {
-        Some(address) if octets.len() == length => {
-            let answer = table.withdraw(address);
-            Outcome::GoOn(format!("w {}", answer_number(&answer)))
-        }
-        _ => bad_record(),
-    }
-}
-
-/// A query: the tag, then ready addresses of so many octets each.
-fn take_query(table: &Table, octets: &[u8], length: usize) -> Outcome {
-    let Some((tag, list)) = octets.split_first_chunk::<TAG_LENGTH>() else {
-        return bad_record();
-    };
-    if list.len() % length != 0 {
-        return bad_record();
-    }
-    let ready: Vec<Address> = list
-        .chunks_exact(length)
-        .filter_map(Address::from_octets)
-        .collect();
-    Outcome::GoOn(
-        match election::elect(table, u32::from_be_bytes(*tag), &ready) {
-            Ok(elected) => format!("q 0 {} {}", printed(elected.address), elected.count),
-            Err(refusal) => format!("q {}", refusal.number()),
-        },
-    )
 }
 
 /// An address as a query prints it: dotted decimals, or 32 lower-case hex digits.

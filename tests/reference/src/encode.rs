@@ -34,12 +34,12 @@
 //! tags and reserved identifiers are encoded as written, so that their refusals can be seen.
 
 use crate::address::Address;
-use crate::bench::{
-    KIND_ANNOUNCEMENT, KIND_ESI, KIND_QUERY, KIND_V6_QUERY, KIND_V6_WITHDRAWAL, KIND_WITHDRAWAL,
-    MARK, MAX_BODY,
-};
 use crate::community::{self, Community, COMMUNITY_LENGTH, DEFAULT_PREFERENCE};
 use crate::esi::{self, Esi};
+use crate::record::{
+    self, KIND_ANNOUNCEMENT, KIND_ESI, KIND_QUERY, KIND_V6_QUERY, KIND_V6_WITHDRAWAL,
+    KIND_WITHDRAWAL, MAX_BODY,
+};
 use crate::route::{octets_of, DISTINGUISHER_LENGTH};
 use std::net::{Ipv4Addr, Ipv6Addr};
 use std::str::FromStr;
@@ -218,11 +218,8 @@ fn ready_octets(list: &str, family: u8) -> Result<Vec<u8>, String> {
 
 /// A whole record: mark, kind, length, octets.
 fn record(kind: u8, body: &[u8]) -> Result<Vec<u8>, String> {
-    let length = u8::try_from(body.len())
-        .map_err(|_| format!("{} octets do not fit; {MAX_BODY} do", body.len()))?;
-    let mut octets = vec![MARK[0], MARK[1], kind, length];
-    octets.extend(body);
-    Ok(octets)
+    record::octets_of(kind, body)
+        .ok_or_else(|| format!("{} octets do not fit; {MAX_BODY} do", body.len()))
 }
 
 fn set_once<T>(slot: &mut Option<T>, name: &str, value: T) -> Result<(), String> {

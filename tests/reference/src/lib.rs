@@ -5,8 +5,8 @@
 //! and prefers the plainest form of each rule to a quick one: the table is a sorted `Vec`, the
 //! CRC goes bit by bit, the weight is computed over numbers that cannot run over.
 //!
-//! One module for each section of document 01, one for addresses, one for Ethernet A-D routes, one
-//! for multicast flows, one for ranges of tags and one for the second in line:
+//! One module for each section of document 01, one for addresses and one for each request of
+//! document 02 that adds calls of its own:
 //!
 //! - `refusal`: the refusal numbers
 //! - `address`: addresses of both families, and their order
@@ -21,8 +21,12 @@
 //! - `ranges`: the ranges of tags that override Highest or Lowest
 //! - `returning`: the preference of a returning router
 //! - `backup`: the second in line, from the table or from a list of candidates
+//! - `record`: one bench record, and the rules that it keeps or breaks
 //! - `bench`: the bench program
+//! - `dumps`: the last announcement of an address in two dumps of bench records
+//! - `compact`: a table written out as bench records, and a log made short by it
 //! - `encode`: text lines to bench records, for a person at the bench
+//! - `decode`: bench records to text lines
 
 #![forbid(unsafe_code)]
 
@@ -31,12 +35,16 @@ pub mod backup;
 pub mod bench;
 pub mod circuits;
 pub mod community;
+pub mod compact;
+pub mod decode;
+pub mod dumps;
 pub mod election;
 pub mod encode;
 pub mod esi;
 pub mod flows;
 pub mod hrw;
 pub mod ranges;
+pub mod record;
 pub mod refusal;
 pub mod returning;
 pub mod route;

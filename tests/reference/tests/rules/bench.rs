@@ -5,52 +5,24 @@ use reference::address::Address::{self, V4, V6};
 use reference::bench::run;
 use std::io::Read;
 
-/// The output for an input.
-fn output(input: &[u8]) -> String {
-    let mut output = Vec::new();
-    assert!(run(&mut &input[..], &mut output).is_ok());
-    String::from_utf8_lossy(&output).into_owned()
-}
-
-fn record(kind: u8, body: &[u8]) -> Vec<u8> {
-    let mut octets = vec![0xD5, 0x4F, kind, body.len() as u8];
-    octets.extend(body);
-    octets
-}
-
-fn first() -> Vec<u8> {
-    record(0, ESI_TEXT)
-}
-
 fn announcement(last: u8) -> Vec<u8> {
     record(1, &route_octets(&ESI, ten(last)))
 }
 
-/// A query of kind 3 or 5.
-fn query_of_kind(kind: u8, tag: u32, ready: &[Address]) -> Vec<u8> {
-    let mut body = tag.to_be_bytes().to_vec();
-    for address in ready {
-        body.extend(address.octets());
-    }
-    record(kind, &body)
-}
-
-fn query(tag: u32, ready: &[Address]) -> Vec<u8> {
-    query_of_kind(3, tag, ready)
-}
-
-fn v6_query(tag: u32, ready: &[Address]) -> Vec<u8> {
-    query_of_kind(5, tag, ready)
-}
-
 /// The output after the first record.
 fn after_first(rest: &[u8]) -> String {
-    output(&[first(), rest.to_vec()].concat())
+    output(&[esi_record(), rest.to_vec()].concat())
 }
 
 #[test]
 fn the_example_of_the_document() {
-    let input = [first(), announcement(1), announcement(2), query(5, &[])].concat();
+    let input = [
+        esi_record(),
+        announcement(1),
+        announcement(2),
+        query(5, &[]),
+    ]
+    .concat();
     assert_eq!(output(&input), "p 0\na 0\na 0\nq 0 10.0.0.2 2\n");
 }
 
@@ -122,7 +94,7 @@ fn the_first_record_is_the_identifier_and_no_later_one_is() {
     assert_eq!(output(&record(2, &[10, 0, 0, 1])), "x 16\n");
     assert_eq!(output(&query(1, &[])), "x 16\n");
     assert_eq!(
-        after_first(&[first(), announcement(1)].concat()),
+        after_first(&[esi_record(), announcement(1)].concat()),
         "p 0\nx 16\n"
     );
 }
@@ -308,7 +280,7 @@ fn a_query_lists_one_family() {
 #[test]
 fn an_input_cut_at_every_octet() {
     let records = [
-        first(),
+        esi_record(),
         announcement(1),
         query(1, &[ten(1)]),
         record(2, &[10, 0, 0, 1]),
@@ -377,7 +349,13 @@ impl Read for Drip<'_> {
 
 #[test]
 fn short_reads_change_nothing() {
-    let input = [first(), announcement(1), announcement(2), query(5, &[])].concat();
+    let input = [
+        esi_record(),
+        announcement(1),
+        announcement(2),
+        query(5, &[]),
+    ]
+    .concat();
     let mut dripped = Vec::new();
     assert!(run(&mut Drip(&input), &mut dripped).is_ok());
     assert_eq!(dripped, output(&input).as_bytes());

@@ -1,6 +1,7 @@
 //! What the tests share: one segment, its routes and communities, and quick calls.
 
 use reference::address::Address::{self, V4, V6};
+use reference::bench;
 use reference::community::{self, Community};
 use reference::election::{elect, Election};
 use reference::refusal::Refusal;
@@ -46,6 +47,58 @@ pub fn community_octets(algorithm: u8, ac_df: bool, dp: bool, preference: u16) -
     let capability = u8::from(dp) << 7 | u8::from(ac_df) << 6;
     let [high, low] = preference.to_be_bytes();
     vec![6, 6, algorithm, capability, 0, 0, high, low]
+}
+
+/// The octets of a record.
+pub fn record(kind: u8, body: &[u8]) -> Vec<u8> {
+    let mut octets = vec![0xD5, 0x4F, kind, body.len() as u8];
+    octets.extend(body);
+    octets
+}
+
+/// The record of the test segment's identifier.
+pub fn esi_record() -> Vec<u8> {
+    record(0, ESI_TEXT)
+}
+
+/// An announcement record with any communities.
+pub fn announcement_record(esi: &[u8; 10], address: Address, communities: &[u8]) -> Vec<u8> {
+    let mut body = route_octets(esi, address);
+    body.extend(communities);
+    record(1, &body)
+}
+
+/// A withdrawal record of either family.
+pub fn withdrawal_record(address: Address) -> Vec<u8> {
+    let kind = match address {
+        V4(_) => 2,
+        V6(_) => 4,
+    };
+    record(kind, &address.octets())
+}
+
+/// A query of kind 3 or 5.
+pub fn query_of_kind(kind: u8, tag: u32, ready: &[Address]) -> Vec<u8> {
+    let mut body = tag.to_be_bytes().to_vec();
+    for address in ready {
+        body.extend(address.octets());
+    }
+    record(kind, &body)
+}
+
+pub fn query(tag: u32, ready: &[Address]) -> Vec<u8> {
+    query_of_kind(3, tag, ready)
+}
+
+pub fn v6_query(tag: u32, ready: &[Address]) -> Vec<u8> {
+    query_of_kind(5, tag, ready)
+}
+
+/// What the bench program prints for an input.
+pub fn output(input: &[u8]) -> String {
+    let mut output = Vec::new();
+    assert!(bench::run(&mut &input[..], &mut output).is_ok());
+    String::from_utf8_lossy(&output).into_owned()
 }
 
 /// A fresh table of the test segment.
