@@ -10,10 +10,9 @@ use lib.Dec.{ltb, eqb}
 use lib.Arith.{lt-one}
 use borrow.Author.Tests.{lt-ltb, le-ltb, ltb-false, eq-eqb, ne-eqb, eqb-true, eqb-false}
 use Rattle.lists.proofs.Bools.{cond-by, true-false}
-use Rattle.lists.proofs.Numbers.{whether}
 use Rattle.keyed.specs.Keyed.{Rising, Distinct, has, remove}
 use Rattle.keyed.proofs.Keyed.{rising-at, rising-mem}
-use Rattle.keyed.proofs.Order.{remove-none, remove-here, remove-there, length-remove, has-mem, rising-distinct}
+use Rattle.keyed.proofs.Order.{remove-here, remove-there, removed-of, removed-in, length-remove, has-mem, rising-distinct}
 use Rattle.keyed.proofs.Journal.{has-removed, distinct-remove}
 use Rattle.address.specs.Address.{familyOf, addressWords}
 use Rattle.layout.specs.Table.{Entry, entryKey, noEntry, Table, WellFormed}
@@ -52,20 +51,6 @@ module _ {A : Type 0} where
   module _ (key : A → ℕ) where
     -- WHO IS LEFT when the one of a key is removed
     module _ (k : ℕ) where
-      pub left-of : (l : List A) {x : A} → List·Memᴰ x (remove key k l) → List·Memᴰ x l
-      left-of [] = rw (remove-none key k) (λ m. m)
-      left-of (y ∷ l) =
-          whether k (key y)
-          (λ e. rw (remove-here key k y l e) (λ m. List·Memᴰ·tail m))
-          (λ n. rw (remove-there key k y l n) (first-or (λ e. List·Memᴰ·head e) (λ m. List·Memᴰ·tail (left-of l m))))
-
-      pub left-in : {l : List A} {x : A} → (key x ≡ k → ⊥) → List·Memᴰ x l → List·Memᴰ x (remove key k l)
-      left-in {l = y ∷ l} n (List·Memᴰ·head e) = rw (remove-there key k y l (λ p. n (ap key e ∙ sym p))) (List·Memᴰ·head e)
-      left-in {l = y ∷ l} n (List·Memᴰ·tail m) =
-          whether k (key y)
-          (λ e. rw (remove-here key k y l e) m)
-          (λ o. rw (remove-there key k y l o) (List·Memᴰ·tail (left-in n m)))
-
       pub left-other : (l : List A) {x : A} → Distinct key l → List·Memᴰ x (remove key k l) → key x ≡ k → ⊥
       left-other l d m e = true-false (has-mem key m) (ap (λ (j : ℕ). has key j (remove key k l)) e ∙ has-removed key k l d)
 
@@ -192,9 +177,9 @@ module _ (m : Method) (cs : List Entry) (tag : ℕ) (d : Distinct entryKey cs) (
         entry = backed;
         family = refl;
         address = refl;
-        candidate = left-of entryKey key cs there;
+        candidate = removed-of entryKey key cs there;
         other = left-other entryKey key cs d there;
-        top = λ x n k. elected-top (m .algorithm) tag (m .digest) rest (unique-distinct entryKey rest (distinct-remove entryKey key cs d)) z x (left-in entryKey key k n);
+        top = λ x n k. elected-top (m .algorithm) tag (m .digest) rest (unique-distinct entryKey rest (distinct-remove entryKey key cs d)) z x (removed-in entryKey key k n);
       }
 
   pub second-by : backupBy m cs tag .number ≡ 0 → SecondInLine m cs tag (backupBy m cs tag)

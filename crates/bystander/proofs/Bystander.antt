@@ -12,10 +12,11 @@ use Rattle.rows.proofs.Compared.{Words, words-part}
 use Rattle.address.specs.Address.{IsAddress, addressKey}
 use Rattle.address.proofs.Laws.{key-injective, length-address}
 use Rattle.keyed.specs.Keyed.{has}
+use Rattle.keyed.proofs.Order.{removed-of, removed-in}
 use Rattle.choice.proofs.Criteria.{unique-rising}
 use Rattle.layout.specs.Table.{Entry, entryKey, noEntry, AddressRight, Table, WellFormed}
 use Rattle.layout.specs.Words.{tableIn, Valid}
-use Rattle.layout.proofs.Words.{address-row}
+use Rattle.layout.proofs.Addresses.{words-in}
 use Rattle.table.specs.Table.{withdrawNumber, withdrawn}
 use Rattle.table.proofs.Calls.{withdrawn-kept}
 use Rattle.settings.specs.Settings.{SettingsRight}
@@ -25,7 +26,7 @@ use Rattle.circuit_ready.proofs.Laws.{length-routers}
 use Rattle.election.specs.Queries.{plain}
 use Rattle.circuit_election.specs.Over.{electOver}
 use Rattle.bystander.specs.Bystander.{Undisturbed}
-use Rattle.bystander.proofs.Members.{mem-place, removed-of, removed-in, on-routers}
+use Rattle.bystander.proofs.Members.{mem-place, on-routers}
 use Rattle.bystander.proofs.Fewer.{same-elected}
 
 -- WHAT A WITHDRAWAL LEAVES, accepted or refused
@@ -61,8 +62,8 @@ undisturbed s a w r known =
     let v = withdrawn-kept t w a in
     let stays : (x : Entry) → List·Memᴰ x (t .entries) → (x .address ≡ a → ⊥) → List·Memᴰ x (u .entries) = λ x m n. left-in t a x m (λ e. n (known x m e)) in
     record {
-      queries = λ g q tag ready. same-elected (s .settings) r t u w v (left-owner t a) a (left-of t a) stays g q tag ready ready (λ h. h) (λ x m. refl);
-      circuits = λ g c tag.
+      queries = λ q tag ready g. same-elected (s .settings) r t u w v (left-owner t a) a (left-of t a) stays g q tag ready ready (λ h. h) (λ x m. refl);
+      circuits = λ c tag g.
           same-elected (s .settings) r t u w v (left-owner t a) a (left-of t a) stays g plain tag (readyRouters c tag (t .entries)) (readyRouters c tag (u .entries))
           (λ _. omega (arith, length-routers c tag (u .entries), v .short))
           (λ x m.
@@ -74,7 +75,7 @@ undisturbed s a w r known =
 known-in : (b : List ℕ) → Valid b → Words b → (a : List ℕ) → IsAddress a → Words a → KnownByKey (tableIn b) a
 known-in b h o a g p x m e =
     let (i, (l, k)) = mem-place noEntry m in
-    let y : Words (getD (tableIn b .entries) i noEntry .address) = rw (← address-row b h i l) (words-part 5 (i * 5) b o) in
+    let y : Words (getD (tableIn b .entries) i noEntry .address) = words-in b h i l o in
     let n = length-address _ (every-in AddressRight (tableIn b .entries) i noEntry (h .sound .addresses) l .0) ∙ sym (length-address a g) in
     ap (λ (z : Entry). z .address) (sym k) ∙ key-injective _ a n y p (ap entryKey k ∙ e)
 

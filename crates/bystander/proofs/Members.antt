@@ -63,26 +63,6 @@ module _ {A : Type 0} where
     pub picked-in : (l : List A) {x : A} → List·Memᴰ x l → test x ≡ true → List·Memᴰ x (picked (map test l) l)
     picked-in l m e = rw (picked-filtered l) (kept-mem test e m)
 
-  -- MEMBERS THAT ARE LEFT when the one of a key is removed
-  module _ (key : A → ℕ) (k : ℕ) where
-    under : {x y : A} {l m : List A} → (List·Memᴰ x m → List·Memᴰ x l) → List·Memᴰ x (y ∷ m) → List·Memᴰ x (y ∷ l)
-    under f (List·Memᴰ·head e) = List·Memᴰ·head e
-    under f (List·Memᴰ·tail m) = List·Memᴰ·tail (f m)
-
-    pub removed-of : (l : List A) {x : A} → List·Memᴰ x (remove key k l) → List·Memᴰ x l
-    removed-of [] = rw (remove-none key k) (λ m. m)
-    removed-of (y ∷ l) =
-        whether k (key y)
-        (λ e. rw (remove-here key k y l e) (λ m. List·Memᴰ·tail m))
-        (λ n. rw (remove-there key k y l n) (under (removed-of l)))
-
-    pub removed-in : {l : List A} {x : A} → (key x ≡ k → ⊥) → List·Memᴰ x l → List·Memᴰ x (remove key k l)
-    removed-in {l = y ∷ l} n (List·Memᴰ·head e) = rw (remove-there key k y l (λ p. n (ap key e ∙ sym p))) (List·Memᴰ·head e)
-    removed-in {l = y ∷ l} n (List·Memᴰ·tail m) =
-        whether k (key y)
-        (λ e. rw (remove-here key k y l e) m)
-        (λ o. rw (remove-there key k y l o) (List·Memᴰ·tail (removed-in n m)))
-
 -- CANDIDATES are the eligible members
 module _ (ac : Bool) (ready : List (List ℕ)) (l : List Entry) where
   pub candidate-of : {x : Entry} → List·Memᴰ x (candidates ac ready l) → List·Memᴰ x l × (eligible ac ready x ≡ true)

@@ -12,7 +12,7 @@ use Rattle.lists.proofs.Bools.{by-test, true-false, not-false-true, or-left, or
 use Rattle.lists.proofs.Numbers.{either}
 use Rattle.lists.proofs.Lists.{perm-length}
 use Rattle.keyed.specs.Keyed.{Distinct, has, remove}
-use Rattle.keyed.proofs.Order.{distinct-perm}
+use Rattle.keyed.proofs.Order.{removed-of, removed-in, distinct-perm}
 use Rattle.keyed.proofs.Journal.{distinct-remove}
 use Rattle.community.specs.Community.{weighsPreference}
 use Rattle.layout.specs.Table.{Entry, entryKey, noEntry}
@@ -25,7 +25,7 @@ use Rattle.answers.specs.Answers.{Method}
 use Rattle.answers.proofs.Laws.{elected-in, elected-top, elected-only}
 use Rattle.backup.specs.declared.Backup.{Backup}
 use Rattle.backup.specs.Backup.{refusedBackup, namedBackup, withoutForwarder, backupBy, SecondInLine}
-use Rattle.backup.proofs.Laws.{left-of, left-in, left-other, rest-there, second-by}
+use Rattle.backup.proofs.Laws.{left-other, rest-there, second-by}
 use Rattle.candidate_list.specs.declared.Candidate.{Candidate}
 use Rattle.candidate_list.specs.Candidates.{candidateEntry, hasAddress, twice, recordsWrong, listWrong, byAlgorithm, backupUnder, backupInList}
 
@@ -103,7 +103,7 @@ module _ (m : Method) (tag : ℕ) (z : m .algorithm ≡ 0 → ⊥) (l k : List E
   same-key n = ap entryKey (elected-same (m .algorithm) tag (m .digest) z l k u (λ e. omega (arith, e, n)) (λ x. perm-mem h) (λ x. perm-mem (Permᴰ·symm h)))
 
   others-same : (j : ℕ) (cs ds : List Entry) → Distinct entryKey cs → List·Permᴰ cs ds → (x : Entry) → List·Memᴰ x (remove entryKey j cs) → List·Memᴰ x (remove entryKey j ds)
-  others-same j cs ds v p x n = left-in entryKey j (left-other entryKey j cs v n) (perm-mem p (left-of entryKey j cs n))
+  others-same j cs ds v p x n = removed-in entryKey j (left-other entryKey j cs v n) (perm-mem p (removed-of entryKey j cs n))
 
   same-second : 2 ≤ length l → elected (m .algorithm) tag (m .digest) (withoutForwarder m l tag) ≡ elected (m .algorithm) tag (m .digest) (withoutForwarder m k tag)
   same-second n =

@@ -150,7 +150,7 @@ read-octets a ac d p h k = rw (mod-eq-of-lt h) (go ac d)
     go false true = ap (electionUnder a false true) two
     go false false = ap (electionUnder a false false) two
 
-length-community : (e : Election) → length (communityOctets e) ≡ 8
+pub length-community : (e : Election) → length (communityOctets e) ≡ 8
 unfolding communityOctets
 length-community e = omega (arith, length-octets 2 (e .preference))
 

@@ -17,6 +17,7 @@ use Rattle.lists.specs.Lists.{Every}
 use Rattle.lists.specs.Checks.{firstRefusal}
 use Rattle.address.specs.Address.{isZero}
 use Rattle.refusals.specs.Refusals.{addressZero, notPresent, badRecord}
+use Rattle.frames.specs.Frames.{recordOf}
 use Rattle.dumps.specs.Dumps.{BenchRecord, Dump, broken, records, recordsOf, announces, counts, lastIn}
 
 -- THE NUMBER
@@ -51,7 +52,7 @@ pub record Last (a s : List ℕ) (at : ℕ) (r : List ℕ) : Type 0 where
   pub payload : List ℕ
   pub later : List BenchRecord
   pub dump : recordsOf s ≡ records (earlier ++ record { at = at; kind = 1; payload = payload } ∷ later)
-  pub octets : r ≡ 0xD5 ∷ 0x4F ∷ 1 ∷ length payload ∷ payload
+  pub octets : r ≡ recordOf 1 payload
   pub counted : announces a payload ≡ true
   pub none : Every (λ (e : BenchRecord). counts a (e .kind) (e .payload) ≡ false) later
 

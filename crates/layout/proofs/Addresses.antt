@@ -41,7 +41,7 @@ module _ (b : List ℕ) (h : Valid b) (i : ℕ) (l : i < length (tableIn b .entr
   pub family-small : getD b (5 * i) 0 < 256
   family-small = let n : 5 * i ≡ 5 * i + 0 = omega arith in rw (n, address-word b h i l 0 (omega arith)) (address.family-small r is-address)
 
-  words-in : Words b → Words r
+  pub words-in : Words b → Words r
   words-in o = rw (← address-row b h i l) (words-part 5 (i * 5) b o)
 
   pub low-first : Words b → getD b (5 * i) 0 ≡ 4 → getD b (5 * i + 1) 0 ≡ addressNumber r % 2 ^ 32

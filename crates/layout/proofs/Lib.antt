@@ -1,2 +1,2 @@
 pub mod Words
-mod Addresses
+pub mod Addresses

@@ -3,7 +3,7 @@ use Prim.Native.Nat.{ℕ, zero, suc, _+_, _<_}
 use native.Mathlib.Nat.{zero-add, suc-add, not-suc-le-zero, le-of-suc-le-suc}
 use native.Mathlib.Numerals.{add-one}
 use native.Mathlib.Omega.{arith}
-use mathlib.Core.Path.{_≡_, refl, ap, _∙_, subst}
+use mathlib.Core.Path.{_≡_, refl, ap, sym, _∙_, subst}
 use mathlib.Core.Bool.{Bool, true, false, cond, and-false}
 use mathlib.Core.List.{List, [], _∷_, _++_, map, List·Memᴰ, List·Memᴰ·head, List·Memᴰ·tail, List·Permᴰ, List·Permᴰ·nil, List·Permᴰ·cons, List·Permᴰ·swap, List·Permᴰ·trans}
 use lib.ListN.{length, getD, set, take, drop}
@@ -50,6 +50,21 @@ module _ {A : Type 0} where
     every-in [] i d h n = absurd (not-suc-le-zero n)
     every-in (x ∷ l) zero d h n = h .0
     every-in (x ∷ l) (suc i) d h n = every-in l i d (h .1) (le-of-suc-le-suc n)
+
+    pub every-mem : (l : List A) → Every P l → (x : A) → List·Memᴰ x l → P x
+    unfolding Every
+    every-mem (y ∷ l) h x (List·Memᴰ·head e) = subst P (sym e) (h .0)
+    every-mem (y ∷ l) h x (List·Memᴰ·tail m) = every-mem l (h .1) x m
+
+    pub mem-every : (l : List A) → ((x : A) → List·Memᴰ x l → P x) → Every P l
+    unfolding Every
+    mem-every [] f = tt
+    mem-every (y ∷ l) f = (f y (List·Memᴰ·head refl), mem-every l (λ x m. f x (List·Memᴰ·tail m)))
+
+    pub every-place : (l : List A) (d : A) → ((i : ℕ) → i < length l → P (getD l i d)) → Every P l
+    unfolding Every
+    every-place [] d f = tt
+    every-place (x ∷ l) d f = (f 0 (omega arith), every-place l d (λ i h. f (suc i) (omega (arith, h))))
 
     pub every-at : (l : List A) (i : ℕ) (d : A) → P d → Every P l → P (getD l i d)
     unfolding Every

@@ -25,7 +25,7 @@ use Rattle.route.specs.Route.{totalOf}
 use Rattle.route.proofs.Laws.{total-least}
 use Rattle.route_fields.specs.Fields.{bitsOf, routeOctets, writeRouteNumber, routeWritten}
 use Rattle.route_fields.proofs.Laws.{length-part, length-octets-route, bits-of}
-use Rattle.community.specs.declared.Election.{Election}
+use Rattle.community.proofs.Laws.{length-community}
 use Rattle.community.specs.Community.{communityOctets, writeNumber, communityWritten}
 use Rattle.layout.specs.Table.{Entry, entryKey, noEntry, AddressRight, Table, WellFormed}
 use Rattle.layout.specs.Words.{kindOf, standingOf}
@@ -61,10 +61,6 @@ odd n true = eq-eqb ((n * 2 + 1) % 2) 1 (omega arith)
 odd n false = ne-eqb ((n * 2 + 0) % 2) 1 (λ h. omega (arith, h))
 
 -- LENGTHS
-pub length-community : (e : Election) → length (communityOctets e) ≡ 8
-unfolding communityOctets
-length-community e = omega (arith, length-octets 2 (e .preference))
-
 pub record-of-family : (r : List ℕ) → IsAddress r → 4 + (totalOf (bitsOf r) + 8) ≡ recordLength (familyOf r)
 unfolding bitsOf familyOf totalOf recordLength
 record-of-family r (ipv4 a e) = rw e

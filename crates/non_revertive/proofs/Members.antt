@@ -1,4 +1,4 @@
--- Members: what holds of every element holds of each member, an insertion under a new key keeps them, and the best of the entries is a member than which none is better. Assumes nothing.
+-- Members: an insertion under a new key keeps them, and the best of the entries is a member than which none is better. Assumes nothing.
 use Prim.Native.Nat.{ℕ}
 use mathlib.Core.Path.{_≡_, refl, sym, subst}
 use mathlib.Core.Bool.{false}
@@ -7,7 +7,6 @@ use native.Mathlib.Omega.{arith}
 use lib.ListN.{length}
 use lib.Dec.{eqb}
 use borrow.Author.Tests.{eqb-false}
-use Rattle.lists.specs.Lists.{Every}
 use Rattle.lists.proofs.Bools.{or-left, or-right}
 use Rattle.lists.proofs.Numbers.{ordered}
 use Rattle.keyed.specs.Keyed.{has, insert}
@@ -19,17 +18,6 @@ use Rattle.winner.proofs.Orders.{order-better}
 use Rattle.returning.specs.Returning.{reference}
 
 module _ {A : Type 0} where
-  pub every-mem : (P : A → Type 0) (l : List A) → Every P l → (x : A) → List·Memᴰ x l → P x
-  unfolding Every
-  every-mem P [] h x m = absurd (List·Memᴰ·not-nil m)
-  every-mem P (y ∷ l) h x (List·Memᴰ·head e) = subst P (sym e) (h .0)
-  every-mem P (y ∷ l) h x (List·Memᴰ·tail m) = every-mem P l (h .1) x m
-
-  pub mem-every : (P : A → Type 0) (l : List A) → ((x : A) → List·Memᴰ x l → P x) → Every P l
-  unfolding Every
-  mem-every P [] f = tt
-  mem-every P (y ∷ l) f = (f y (List·Memᴰ·head refl), mem-every P l (λ x m. f x (List·Memᴰ·tail m)))
-
   pub some-mem : {x : A} (l : List A) → List·Memᴰ x l → length l ≡ 0 → ⊥
   some-mem [] m z = List·Memᴰ·not-nil m
   some-mem (y ∷ l) m z = omega arith

@@ -11,6 +11,7 @@ use lib.Dec.{ltb, eqb}
 use borrow.Author.Tests.{eqb-true}
 use Rattle.lists.specs.Lists.{Every}
 use Rattle.lists.proofs.Bools.{cond-by}
+use Rattle.lists.proofs.Lists.{every-mem, mem-every}
 use Rattle.address.specs.Address.{addressRow, IsAddress, ipv4, ipv6, familyOf, addressWords, addressKey, isZero}
 use Rattle.address.specs.declared.Address.{Address}
 use Rattle.address.proofs.Laws.{row-address, row-words, key-above}
@@ -39,7 +40,7 @@ use Rattle.returning.specs.declared.Sent.{Sent}
 use Rattle.returning.specs.Returning.{reference, returningWith}
 use Rattle.forwarders.specs.Forwarders.{electIn, Names, SameForwarder}
 use Rattle.non_revertive.specs.NonRevertive.{ComesBack, announcedPair, NonRevertive}
-use Rattle.non_revertive.proofs.Members.{every-mem, mem-every, some-mem, mem-insert, reference-in, reference-top}
+use Rattle.non_revertive.proofs.Members.{some-mem, mem-insert, reference-in, reference-top}
 use Rattle.non_revertive.proofs.Pair as pair
 use Rattle.non_revertive.proofs.Named.{two-or-three, Plain, plain-all, ruling, ruling-two-three, ruling-own, answerIn, named, names-best}
 use Rattle.non_revertive.proofs.Octets as octets

@@ -11,6 +11,7 @@ use lib.Dec.{leb}
 use borrow.Author.Tests.{leb-false}
 use Rattle.lists.specs.Lists.{Every}
 use Rattle.lists.proofs.Bools.{by-test}
+use Rattle.lists.proofs.Lists.{every-mem}
 use Rattle.address.specs.Address.{addressKey, isZero}
 use Rattle.keyed.specs.Keyed.{has}
 use Rattle.keyed.proofs.Order.{remove-absent}
@@ -22,7 +23,7 @@ use Rattle.winner.specs.Winner.{better}
 use Rattle.returning.specs.declared.Sent.{Sent}
 use Rattle.returning.specs.Returning.{allUnder, reaches, sent, reference, fits, besideReference, besideBoth, returningWith}
 use Rattle.returning.proofs.Laws.{Beside, beside-both, beside-one, sent-beside}
-use Rattle.non_revertive.proofs.Members.{every-mem, reference-in, reference-top}
+use Rattle.non_revertive.proofs.Members.{reference-in, reference-top}
 use Rattle.non_revertive.proofs.Losing.{lower-loses, higher-loses, clear-loses-highest, clear-loses-lowest, no-lower}
 
 -- the own preference p does not reach a reference whose DP is set

@@ -7,7 +7,7 @@ use mathlib.Core.Bool.{Bool, true, false}
 use mathlib.Core.List.{List, [], _∷_, _++_, map, List·Memᴰ, List·Memᴰ·head, List·Memᴰ·tail, List·Memᴰ·not-nil, List·Permᴰ, List·Permᴰ·cons, Permᴰ·refl, Permᴰ·map}
 use mathlib.Core.Logic.{_⊎_, inl, inr, ⊎-elim}
 use lib.ListN.{length}
-use Rattle.lists.specs.Lists.{Every}
+use Rattle.lists.proofs.Lists.{every-mem}
 use Rattle.address.specs.Address.{addressKey, familyOf, addressWords}
 use Rattle.address.proofs.Laws.{length-address}
 use Rattle.layout.specs.Table.{Entry, entryKey, WellFormed, AddressRight}
@@ -55,11 +55,6 @@ unfolding familyOf addressWords
 same-address [] b m n p q = absurd (omega arith)
 same-address (x ∷ a) [] m n p q = absurd (omega arith)
 same-address (x ∷ a) (y ∷ b) m n p q = ap₂ (λ (z : ℕ) (l : List ℕ). z ∷ l) p q
-
-every-mem : {A : Type 0} (P : A → Type 0) (l : List A) → Every P l → (x : A) → List·Memᴰ x l → P x
-unfolding Every
-every-mem P (y ∷ l) w x (List·Memᴰ·head e) = subst P (sym e) (w .0)
-every-mem P (y ∷ l) w x (List·Memᴰ·tail m) = every-mem P l (w .1) x m
 
 -- WHO IS NAMED, upon a state whose table is well-formed
 module _ (s : Segment) (w : WellFormed (s .table)) (q : Query) (tag : ℕ) (ready : List (List ℕ)) where

@@ -17,7 +17,7 @@ returns c =
     let start = c .before .before .before .before .before in
     let a = start .args in
     let told = rw (settings-part (a .s .now) (start .pre)) at (c .name-backup .ensures) in
-    (told .0, (told .1, takes-over (segmentIn (a .s .now)) (start .pre .table .sound) (start .pre .settings .sound) (a .tag) (readyIn (now (a .ready))) _ (told .0) (told .1)))
+    (told .0, (told .1, takes-over (segmentIn (a .s .now)) (start .pre .table .sound) (start .pre .settings .sound) (a .tag) _ (readyIn (now (a .ready))) (told .0) (told .1)))
 
 pub name-backup-spec : {M : Type 1} → statement M
 name-backup-spec =
