@@ -1,4 +1,4 @@
-//! Links the archives of the proved calls, which `rt staticlib` writes: one of `exports`, one of `circuit_exports`, one of `flow_exports`, one of `any_source_exports` and one of `backup_exports`.
+//! Links the archives of the proved calls, which `rt staticlib` writes, one for each crate that is named below.
 
 use std::path::Path;
 
@@ -11,6 +11,9 @@ fn main() {
         "flow_exports",
         "any_source_exports",
         "backup_exports",
+        "candidate_list",
+        "dump_exports",
+        "log_exports",
     ] {
         let archive = folder.join(format!("lib{name}.a"));
         assert!(archive.exists(), "first: rt staticlib {name}");

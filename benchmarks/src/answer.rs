@@ -1,6 +1,6 @@
 //! The calls that every side of a comparison has, and their answers. Document 01, "The table", "The election", "The returning router"; document 02,
 //! M-102 for the Ethernet A-D routes, M-103 for the place, M-105 for addresses of both families, M-106 for elections by multicast flow, M-109 for ranges
-//! of tags, M-111 for dumps of records and M-113 for the second in line. The structs that are answered are laid out as in C, so that the proved calls can answer them.
+//! of tags, M-111 for dumps of records, M-112 for tables written out as records and M-113 for the second in line. The structs that are answered are laid out as in C, so that the proved calls can answer them.
 
 /// The words of a row of a ready list: the family, 4 or 6, then the words of an address. A row of another family is a stranger; words after the last
 /// whole row are no row.
@@ -119,6 +119,24 @@ pub struct Candidate {
     pub dp: bool,
 }
 
+impl Candidate {
+    pub fn new(address: Address, preference: u16, dp: bool) -> Candidate {
+        let [w0, w1, w2, w3] = address.words;
+        Candidate {
+            family: match address.family {
+                Family::V4 => 4,
+                Family::V6 => 6,
+            },
+            w0,
+            w1,
+            w2,
+            w3,
+            preference,
+            dp,
+        }
+    }
+}
+
 /// What a returning router sends: 0 and the pair, or a refusal number and zeros.
 #[repr(C)]
 #[derive(Clone, Copy, Debug, Default, PartialEq, Eq)]
@@ -135,6 +153,14 @@ pub struct Found {
     pub number: u8,
     pub dump: u8,
     pub start: usize,
+    pub length: usize,
+}
+
+/// What the writer of a table as records answers: 0 and how many octets it wrote, or a refusal number and 0.
+#[repr(C)]
+#[derive(Clone, Copy, Debug, Default, PartialEq, Eq)]
+pub struct Logged {
+    pub number: u8,
     pub length: usize,
 }
 
@@ -235,4 +261,10 @@ pub trait Segment {
 
     /// The digest of a tag on the segment of an identifier.
     fn digest(tag: u32, esi: &[u8; 10]) -> u32;
+
+    /// Names the backup of a list of candidates kept as records.
+    fn name_backup_in(list: &[Candidate], algorithm: u8) -> Backup;
+
+    /// The last announcement of an address in two dumps of records.
+    fn last_announcement(first: &[u8], second: &[u8], address: Address) -> Found;
 }

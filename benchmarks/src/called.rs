@@ -1,6 +1,6 @@
 //! A baseline whose calls are never inlined, as the proved calls are not: each costs one call.
 
-use crate::answer::{Address, Answer, Backup, Segment, Sent, Verdict};
+use crate::answer::{Address, Answer, Backup, Candidate, Found, Segment, Sent, Verdict};
 
 pub struct Called<T>(T);
 
@@ -74,5 +74,15 @@ impl<T: Segment> Segment for Called<T> {
     #[inline(never)]
     fn digest(tag: u32, esi: &[u8; 10]) -> u32 {
         T::digest(tag, esi)
+    }
+
+    #[inline(never)]
+    fn name_backup_in(list: &[Candidate], algorithm: u8) -> Backup {
+        T::name_backup_in(list, algorithm)
+    }
+
+    #[inline(never)]
+    fn last_announcement(first: &[u8], second: &[u8], address: Address) -> Found {
+        T::last_announcement(first, second, address)
     }
 }

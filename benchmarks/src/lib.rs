@@ -6,6 +6,7 @@
 //! - `array`: baseline (a), sorted arrays updated in place
 //! - `list`: baseline (b), a doubly linked list of heap nodes
 //! - `dumps`: the baseline of a search through two dumps of records
+//! - `candidates`: the baseline of the second in line of a list of candidates
 //! - `called`: a baseline whose calls are never inlined
 //! - `rounds`: the rounds of calls that are counted, timed and compared
 //! - `records`: the bench program over a baseline, and the generator of a long run of records
@@ -15,6 +16,7 @@
 pub mod answer;
 pub mod array;
 pub mod called;
+pub mod candidates;
 pub mod dumps;
 pub mod list;
 pub mod octets;

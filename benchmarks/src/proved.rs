@@ -1,8 +1,12 @@
-//! The proved calls, as the crates `exports`, `circuit_exports`, `flow_exports`, `any_source_exports` and `backup_exports` hand them to C: a slice goes over as its start and its length.
+//! The proved calls, as the crates `exports`, `circuit_exports`, `flow_exports`, `any_source_exports`, `backup_exports`, `candidate_list`, `dump_exports` and
+//! `log_exports` hand them to C: a slice goes over as its start and its length.
 
 use crate::answer::{
-    self, Address, Answer, Backup, Circuit, Family, Segment, Sent, Verdict, CIRCUIT_WORDS,
+    self, Address, Answer, Backup, Candidate, Circuit, Family, Found, Logged, Segment, Sent,
+    Verdict, CIRCUIT_WORDS,
 };
+use crate::dumps;
+use std::{ptr, slice};
 
 /// 64 rows of five words, the family and the address; 64 words of attributes; the count; the ten octets of the identifier. Then the algorithm numbers set
 /// for (S,G) and for (*,G), or zeros. Then the ranges of tags: how many there are, and 16 rows of three words, the first tag, the last and 2 or 3;
@@ -17,6 +21,13 @@ pub const CIRCUITS_WORDS: usize = 256 * CIRCUIT_WORDS + 1;
 
 /// The words of a table of Ethernet A-D routes. As above, only the calls below write them.
 pub struct Circuits([u32; CIRCUITS_WORDS]);
+
+/// A part of octets that were lent, as a call writes it: where it starts and how long it is.
+#[repr(C)]
+struct Part {
+    start: *const u8,
+    length: usize,
+}
 
 extern "C" {
     fn segment_fresh(t: *mut u32, esi: *const u8, esi_length: usize) -> u8;
@@ -84,6 +95,18 @@ extern "C" {
         dp: bool,
     ) -> Sent;
     fn segment_digest(tag: u32, esi: *const u8) -> u32;
+    fn dumps_last_announcement(
+        first: *const u8,
+        first_length: usize,
+        second: *const u8,
+        second_length: usize,
+        v6: bool,
+        w0: u32,
+        w1: u32,
+        w2: u32,
+        w3: u32,
+        part: *mut Part,
+    ) -> u8;
     fn circuits_fresh(c: *mut u32);
     fn circuits_announce(
         c: *mut u32,
@@ -128,6 +151,10 @@ extern "C" {
         c_length: usize,
         tag: u32,
     ) -> Backup;
+    #[link_name = "name_backup_in"]
+    fn list_name_backup(list: *const Candidate, list_length: usize, algorithm: u8) -> Backup;
+    fn segment_write_log(s: *const u32, s_length: usize, out: *mut u8, out_length: usize)
+        -> Logged;
 }
 
 // SAFETY, of every call: what is lent is live for the call and has the length that goes over with it, the words are lent for writing where they are
@@ -257,12 +284,54 @@ impl Segment for Table {
     fn digest(tag: u32, esi: &[u8; 10]) -> u32 {
         unsafe { segment_digest(tag, esi.as_ptr()) }
     }
+
+    #[inline]
+    fn name_backup_in(list: &[Candidate], algorithm: u8) -> Backup {
+        name_backup_in(list, algorithm)
+    }
+
+    /// The part is none before the call that writes it. With a refusal it is empty.
+    #[inline]
+    fn last_announcement(first: &[u8], second: &[u8], address: Address) -> Found {
+        let v6 = address.family == Family::V6;
+        let [w0, w1, w2, w3] = address.words;
+        let mut part = Part {
+            start: ptr::null(),
+            length: usize::MAX,
+        };
+        let (one, other) = (first.as_ptr(), second.as_ptr());
+        let (n, m) = (first.len(), second.len());
+        let number =
+            unsafe { dumps_last_announcement(one, n, other, m, v6, w0, w1, w2, w3, &mut part) };
+        if number == 0 {
+            let octets = unsafe { slice::from_raw_parts(part.start, part.length) };
+            return dumps::found(Ok(octets), first, second);
+        }
+        assert_eq!(
+            part.length, 0,
+            "refused with {number}, and a part comes back"
+        );
+        Found::refused(number)
+    }
+}
+
+/// Names the backup of a list of candidates kept as records.
+// SAFETY: the records are live for the call, as many as the length says, laid out as in C, and a `bool` is 0 or 1.
+#[inline]
+pub fn name_backup_in(list: &[Candidate], algorithm: u8) -> Backup {
+    unsafe { list_name_backup(list.as_ptr(), list.len(), algorithm) }
 }
 
 impl Table {
     /// All its words.
     pub fn words(&self) -> &[u32; WORDS] {
         &self.0
+    }
+
+    /// Writes the table out as records into octets that are lent.
+    // SAFETY: as above.
+    pub fn write_log(&self, out: &mut [u8]) -> Logged {
+        unsafe { segment_write_log(self.0.as_ptr(), WORDS, out.as_mut_ptr(), out.len()) }
     }
 }
 

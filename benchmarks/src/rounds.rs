@@ -1,7 +1,7 @@
 //! The rounds of calls that are counted, timed and compared, over any side. What a round is handed goes through `black_box`, and every answer goes to
 //! a hearer: one keeps them all, for the comparison of the sides; the other only sees that the compiler leaves none out.
 
-use crate::answer::{Address, Circuit, Circuits, Segment};
+use crate::answer::{Address, Candidate, Circuit, Circuits, Segment};
 use crate::workload::{self, Families, Flow, Run, ESI, FLOW_ALGORITHMS};
 use std::fmt::Debug;
 use std::hint::black_box;
@@ -56,6 +56,8 @@ pub enum Work {
         circuits: Vec<Circuit>,
         tags: Vec<u32>,
     },
+    /// A round: the backup named in the list.
+    NameBackupIn { list: Vec<Candidate>, algorithm: u8 },
     /// A round: what the router of the next address, from 1 on, sends when it comes back with a preference of 40,000 and DP set. In a mixed table they
     /// are of either family in turn.
     Returning {
@@ -65,6 +67,12 @@ pub enum Work {
     },
     /// A round: the digest of the next tag, from 1 on.
     Digest,
+    /// A round: the last announcement of the address in two dumps.
+    LastAnnouncement {
+        first: Vec<u8>,
+        second: Vec<u8>,
+        address: Address,
+    },
 }
 
 pub trait Hearer {
@@ -223,6 +231,12 @@ pub fn rounds<T: Segment>(work: &Work, rounds: u32, hearer: &mut impl Hearer) {
                 hearer.hear(table.name_backup_by_circuits(beside, tag));
             }
         }
+        Work::NameBackupIn { list, algorithm } => {
+            for _ in 0..rounds {
+                let (list, algorithm) = (black_box(list), *black_box(algorithm));
+                hearer.hear(T::name_backup_in(list, algorithm));
+            }
+        }
         Work::Returning {
             runs,
             families,
@@ -239,6 +253,16 @@ pub fn rounds<T: Segment>(work: &Work, rounds: u32, hearer: &mut impl Hearer) {
         Work::Digest => {
             for tag in 1..=rounds {
                 hearer.hear(T::digest(black_box(tag), black_box(&ESI)));
+            }
+        }
+        Work::LastAnnouncement {
+            first,
+            second,
+            address,
+        } => {
+            for _ in 0..rounds {
+                let (first, second) = (black_box(first), black_box(second));
+                hearer.hear(T::last_announcement(first, second, *black_box(address)));
             }
         }
     }

@@ -1,7 +1,7 @@
 //! Routes, communities, ready lists, multicast flows and ranges of tags, the same in every run. IPv4 addresses are 10.x.y.z and IPv6 ones 2001:db8::x:y, scattered in the
 //! low 24 bits and handed over in no order.
 
-use crate::answer::{Address, Circuit, Family};
+use crate::answer::{Address, Candidate, Circuit, Family};
 use crate::random::Random;
 
 pub const ESI: [u8; 10] = [0x00, 0x11, 0x22, 0x33, 0x44, 0x55, 0x66, 0x77, 0x88, 0x99];
@@ -114,6 +114,15 @@ pub fn runs(
         address: *address,
     };
     addresses.iter().map(run).collect()
+}
+
+/// The records of candidates with some addresses; preferences and DP bits differ.
+pub fn candidates(addresses: &[Address], random: &mut Random) -> Vec<Candidate> {
+    let record = |address: &Address| {
+        let (dp, preference) = (random.one_in(2), random.word() as u16);
+        Candidate::new(*address, preference, dp)
+    };
+    addresses.iter().map(record).collect()
 }
 
 /// The Ethernet A-D routes of routers that are ready for every one of some tags.

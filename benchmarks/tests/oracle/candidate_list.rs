@@ -1,5 +1,5 @@
-//! The second in line from a list of candidates kept as records (document 02, M-113): any function that names it is compared with the reference, on lists near 64 and
-//! 65 records, with every fault of 22 at every place, in any order.
+//! The second in line from a list of candidates kept as records (document 02, M-113): the proved call, the baseline, one that sorts the list and the table form with all
+//! candidates announced are each compared with the reference, on lists near 64 and 65 records, with every fault of 22 at every place, in any order.
 
 use crate::beside::{Beside, State};
 use crate::tally::Tally;
@@ -7,7 +7,7 @@ use crate::{named, sixteen_octets};
 use benchmarks::answer::{Address, Backup, Candidate, Family, Segment};
 use benchmarks::random::Random;
 use benchmarks::workload::{self, ESI};
-use benchmarks::{array, list, proved};
+use benchmarks::{array, candidates, list, proved};
 use reference::backup;
 use std::cmp::Reverse;
 
@@ -30,22 +30,6 @@ fn told(list: &[Candidate], algorithm: u8) -> Backup {
         })
         .collect();
     named(backup::name_in(&records, algorithm))
-}
-
-fn record(address: Address, preference: u16, dp: bool) -> Candidate {
-    let [w0, w1, w2, w3] = address.words;
-    Candidate {
-        family: match address.family {
-            Family::V4 => 4,
-            Family::V6 => 6,
-        },
-        w0,
-        w1,
-        w2,
-        w3,
-        preference,
-        dp,
-    }
 }
 
 /// What is wrong with a list, if anything.
@@ -78,7 +62,7 @@ fn candidates(count: usize, random: &mut Random) -> Vec<Candidate> {
         if !addresses.contains(&address) {
             addresses.push(address);
             let preference = preferences[random.below(kinds)];
-            list.push(record(address, preference, random.one_in(2)));
+            list.push(Candidate::new(address, preference, random.one_in(2)));
         }
     }
     random.shuffle(&mut list);
@@ -105,7 +89,7 @@ fn spoil(list: &mut [Candidate], fault: Fault, random: &mut Random) {
         Fault::None => {}
         Fault::Zero => {
             let zero = [Address::v4(0), Address::v6(0)][random.below(2)];
-            list[at] = record(zero, preference, dp);
+            list[at] = Candidate::new(zero, preference, dp);
             blur(list, random);
         }
         Fault::Twice => {
@@ -205,13 +189,13 @@ fn right_at_every_place(name: impl Fn(&[Candidate], u8) -> Backup) {
     let mut compared = 0;
     for size in [2, 3, 8, 64] {
         let plain: Vec<Candidate> = (1..=size as u32)
-            .map(|last| record(Address::v4(0x0A00_0000 | last), 200, false))
+            .map(|last| Candidate::new(Address::v4(0x0A00_0000 | last), 200, false))
             .collect();
         for (first, second) in (0..size).flat_map(|one| (0..size).map(move |two| (one, two))) {
             let mut list = plain.clone();
             if first == second {
                 for zero in [Address::v4(0), Address::v6(0)] {
-                    list[first] = record(zero, 300, true);
+                    list[first] = Candidate::new(zero, 300, true);
                     assert_eq!(name(&list, HIGHEST), Backup::refused(22), "zero at {first}");
                 }
                 for family in (0..=255).filter(|family| !matches!(family, 4 | 6)) {
@@ -323,6 +307,18 @@ fn by_table<T: Segment + State>(list: &[Candidate], algorithm: u8) -> Backup {
         beside.announce(&workload::route(&ESI, address), &community, "a candidate");
     }
     beside.name_backup(1, &[], "candidates")
+}
+
+#[test]
+fn proved_lists_are_right() {
+    same_as_the_reference(proved::name_backup_in);
+    right_at_every_place(proved::name_backup_in);
+}
+
+#[test]
+fn baseline_lists_are_right() {
+    same_as_the_reference(candidates::name_backup_in);
+    right_at_every_place(candidates::name_backup_in);
 }
 
 #[test]

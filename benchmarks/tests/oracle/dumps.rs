@@ -3,9 +3,9 @@
 
 use crate::dump_slips::{self, Slip};
 use crate::theirs;
-use benchmarks::answer::{Address, Found};
+use benchmarks::answer::{Address, Found, Segment};
 use benchmarks::random::Random;
-use benchmarks::{dumps, records, workload};
+use benchmarks::{array, proved, records, workload};
 use reference::dumps::{last_announcement, Dump, Part};
 use std::collections::BTreeMap;
 
@@ -517,11 +517,13 @@ fn same_as_the_reference(search: impl Fn(&[u8], &[u8], Address) -> Found) {
 }
 
 #[test]
+fn proved_is_right() {
+    same_as_the_reference(<proved::Table as Segment>::last_announcement);
+}
+
+#[test]
 fn baseline_is_right() {
-    same_as_the_reference(|first, second, address| {
-        let answer = dumps::last_announcement(first, second, address);
-        dumps::found(answer, first, second)
-    });
+    same_as_the_reference(<array::Table as Segment>::last_announcement);
 }
 
 /// A search written another way, and the same with each slip: only the one without a slip is right.

@@ -1,10 +1,10 @@
 //! A table written out as bench records into a lent buffer (document 02, M-112). A writer is any function that makes a table by calls and writes it into a buffer;
-//! each is held against the reference: the number, how many octets the run has, and the whole buffer afterwards. Writers with one slip each must show.
+//! each is held against the reference, the proved one too: the number, how many octets the run has, and the whole buffer afterwards. Writers with one slip each must show.
 
 use crate::{addresses, theirs};
-use benchmarks::answer::Address;
+use benchmarks::answer::{Address, Logged, Segment};
 use benchmarks::random::Random;
-use benchmarks::workload;
+use benchmarks::{proved, workload};
 use reference::compact;
 use reference::table::{Entry, Table};
 use std::collections::BTreeMap;
@@ -262,6 +262,33 @@ fn announced(esi: &[u8; 10], entry: &Entry, slip: Option<Slip>) -> Vec<u8> {
     ]);
     octets.extend(preference.to_be_bytes());
     octets
+}
+
+/// The proved writer, upon a segment that the proved calls made.
+fn proved_log(esi: &[u8], calls: &[Call], buffer: &mut [u8]) -> Answer {
+    let mut segment = proved::Table::empty();
+    segment.fresh(esi);
+    for call in calls {
+        match call {
+            Call::Announce(route, communities) => drop(segment.announce(route, communities)),
+            Call::Withdraw(address) => drop(segment.withdraw(*address)),
+            Call::FlowAlgorithms(one, other) => drop(segment.set_flow_algorithms(*one, *other)),
+            Call::Ranges(run) => drop(segment.set_ranges(run)),
+        }
+    }
+    let before = *segment.words();
+    let Logged { number, length } = segment.write_log(buffer);
+    assert_eq!(
+        *segment.words(),
+        before,
+        "the writer leaves the segment as it was"
+    );
+    (number, length)
+}
+
+#[test]
+fn proved_log_is_right() {
+    same_as_the_reference(proved_log);
 }
 
 /// The other writer, and the same with each slip: only the one without a slip is right.

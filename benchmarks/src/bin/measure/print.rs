@@ -70,6 +70,34 @@ pub fn pairs(rows: &[Row], counts: &[Costs], ratio: &Ratio) {
     println!("\nTargets {} met: {met} of {judged}.\n", ratio.judged);
 }
 
+/// A table of instructions of rows whose calls have one baseline, which both other sides call. Where nothing is asked nothing is judged.
+pub fn beside_one(rows: &[Row], counts: &[Costs], size: &str) {
+    let names = ["Call", "Addresses", size, "ours ins", "baseline ins"];
+    let names = [&names[..], &["ours/baseline", "Target", ""]].concat();
+    line(&names.into_iter().map(String::from).collect::<Vec<_>>());
+    println!("|---|---|--:|--:|--:|--:|---|---|");
+    let (mut judged, mut met) = (0, 0);
+    for (row, costs) in rows.iter().zip(counts) {
+        let mut cells = start(row);
+        cells.extend(costs[..2].iter().map(|cost| format!("{cost:.0}")));
+        cells.push(format!("{:.2}", costs[0] / costs[1]));
+        match row.target.most[0] {
+            None => cells.extend(["none".into(), String::new()]),
+            Some(most) => {
+                let verdict = verdict(&row.target, costs);
+                judged += 1;
+                met += usize::from(verdict == "met");
+                cells.extend([format!("{most:.1}"), verdict.into()]);
+            }
+        }
+        line(&cells);
+    }
+    if judged > 0 {
+        println!("\nTargets beside the one baseline met: {met} of {judged}.");
+    }
+    println!();
+}
+
 pub fn programs(programs: &[Program]) {
     println!("| Bench program | Ins for a record | Ours of it | Target | | Records/s |");
     println!("|---|--:|--:|---|---|--:|");

@@ -24,7 +24,7 @@ pub struct Target {
     pub most: [Option<f64>; 2],
 }
 
-const fn by_instructions(of_array: f64, of_list: Option<f64>) -> Target {
+pub const fn by_instructions(of_array: f64, of_list: Option<f64>) -> Target {
     Target {
         measure: Measure::Instructions,
         most: [Some(of_array), of_list],
@@ -37,6 +37,8 @@ pub const NOT_BESIDE: Target = Target {
     measure: Measure::Instructions,
     most: [None, None],
 };
+/// Every row's rounds that are compared; of rounds that do more than so many calls each, two.
+const COMPARED: usize = 577;
 /// Where rows of words move.
 const MOVED: Target = Target {
     measure: Measure::Time,
@@ -107,10 +109,19 @@ pub fn row(name: &str, table: Option<Table>, target: Target, work: Work) -> Row 
 /// Every answer of every round must be the same on all sides.
 pub fn check(rows: &[Row]) {
     for Row {
-        name, table, work, ..
+        name,
+        table,
+        calls_in_round,
+        work,
+        ..
     } in rows
     {
-        for rounds in [0, 1, 577] {
+        let most = if *calls_in_round > COMPARED {
+            2
+        } else {
+            COMPARED
+        };
+        for rounds in [0, 1, most as u32] {
             let expected = (SIDES[0].answers)(work, rounds);
             for side in &SIDES[1..] {
                 let same = (side.answers)(work, rounds) == expected;
