@@ -1,11 +1,13 @@
-//! The second in line of a list of candidates kept as records (document 02, M-113), in plain fast Rust: one pass over the records that tests each and whether its
-//! address was there before, and one that keeps the two best.
+//! The second in line of a list of candidates kept as records (document 02, M-113), in plain fast Rust: one pass over the records tests each and whether its
+//! address was there before, and one keeps the two best. A record that is not better than the second, as most are not, costs one comparison.
 
 use crate::answer::{Backup, Candidate};
 use crate::octets::MAX_ROUTES;
 
-/// Up to so many records each is compared with all before it; of more the addresses are sorted.
-const FEW: usize = 8;
+/// Up to so many records each is compared with all before it; of more the addresses are hashed.
+const FEW: usize = 4;
+/// The places that an address may be hashed to: so many that half of them stay free.
+const PLACES: usize = 2 * MAX_ROUTES;
 
 /// The backup. A list over 64, an address zero, an address twice or a family that is none, 22; an algorithm other than 2 and 3, 15; fewer than two, 12.
 pub fn name_backup_in(list: &[Candidate], algorithm: u8) -> Backup {
@@ -31,78 +33,96 @@ fn lower(one: &Candidate) -> u32 {
     u32::from(!one.preference) << 1 | u32::from(one.dp)
 }
 
-/// The sixteen octets as a number; an IPv4 address is the number itself.
-#[inline(always)]
-fn number(one: &Candidate) -> u128 {
-    let [a, b, c, d] = [one.w0, one.w1, one.w2, one.w3].map(u128::from);
-    match one.family {
-        4 => a,
-        _ => a << 96 | b << 64 | c << 32 | d,
-    }
-}
-
 /// Whether a record is no address, or has one that another has.
+#[inline(always)]
 fn is_wrong(list: &[Candidate]) -> bool {
     if list.len() <= FEW {
-        let before = |at: usize| list[..at].iter();
-        return list.iter().enumerate().any(|(at, one)| {
-            is_none(one)
-                || before(at)
-                    .any(|other| one.family == other.family && number(one) == number(other))
-        });
+        let is_before = |at: usize| list[..at].iter().any(|other| is_same(&list[at], other));
+        return (0..list.len()).any(|at| is_none(&list[at]) || is_before(at));
     }
-    let (mut fours, mut sixes) = ([0; MAX_ROUTES], [0; MAX_ROUTES]);
-    let (mut n, mut m) = (0, 0);
-    for one in list {
+    is_wrong_by_hash(list)
+}
+
+/// The same, for many records. A place holds 0 or one more than the record that was put there.
+#[inline(never)]
+fn is_wrong_by_hash(list: &[Candidate]) -> bool {
+    let mut places = [0_u8; PLACES];
+    for (one, next) in list.iter().zip(1..) {
         if is_none(one) {
             return true;
         }
-        if one.family == 4 {
-            fours[n] = one.w0;
-            n += 1;
-        } else {
-            sixes[m] = number(one);
-            m += 1;
+        let mut place = hash(one) % PLACES;
+        while places[place] != 0 {
+            if is_same(one, &list[usize::from(places[place]) - 1]) {
+                return true;
+            }
+            place = (place + 1) % PLACES;
         }
+        places[place] = next;
     }
-    is_twice(&mut fours[..n]) || is_twice(&mut sixes[..m])
+    false
+}
+
+#[inline(always)]
+fn hash(one: &Candidate) -> usize {
+    let word = match one.family {
+        4 => one.w0,
+        _ => one.w0 ^ one.w1.rotate_left(8) ^ one.w2.rotate_left(16) ^ one.w3,
+    };
+    (word.wrapping_mul(0x9E37_79B9) >> 25) as usize
 }
 
 #[inline(always)]
 fn is_none(one: &Candidate) -> bool {
-    !matches!(one.family, 4 | 6) || number(one) == 0
+    match one.family {
+        4 => one.w0 == 0,
+        6 => one.w0 | one.w1 | one.w2 | one.w3 == 0,
+        _ => true,
+    }
 }
 
-/// Whether a number is there twice.
-fn is_twice<N: Ord>(numbers: &mut [N]) -> bool {
-    numbers.sort_unstable();
-    numbers.windows(2).any(|two| two[0] == two[1])
+/// Whether two records that are addresses have the same.
+#[inline(always)]
+fn is_same(one: &Candidate, other: &Candidate) -> bool {
+    let tails = |one: &Candidate| (one.w3, one.w2, one.w1);
+    one.w0 == other.w0
+        && one.family == other.family
+        && (one.family == 4 || tails(one) == tails(other))
 }
 
-/// The second of a list of different addresses: of equal scores the lower address is better, and every IPv4 address is lower than every IPv6 one.
+/// Whether a record's address is lower: every IPv4 address is lower than every IPv6 one.
+#[inline(always)]
+fn is_lower(one: &Candidate, other: &Candidate) -> bool {
+    let key = |one: &Candidate| match one.family {
+        4 => (4, one.w0, 0, 0, 0),
+        family => (family, one.w0, one.w1, one.w2, one.w3),
+    };
+    key(one) < key(other)
+}
+
+/// The second of a list of different addresses. Of equal scores the lower address is better.
 #[inline(always)]
 fn second_of(list: &[Candidate], score: impl Fn(&Candidate) -> u32) -> Backup {
     let [one, other, rest @ ..] = list else {
         return Backup::refused(12);
     };
-    let above = |one: &Candidate, other: &Candidate| {
-        let (ours, theirs) = (score(one), score(other));
-        ours > theirs || ours == theirs && (one.family, number(one)) < (other.family, number(other))
+    let scored = |one| (score(one), one);
+    let above = |(one, its): (u32, &Candidate), (other, theirs): (u32, &Candidate)| {
+        one > other || one == other && is_lower(its, theirs)
     };
-    let (mut best, mut second) = if above(other, one) {
-        (other, one)
-    } else {
-        (one, other)
-    };
-    for met in rest {
+    let (mut best, mut second) = (scored(one), scored(other));
+    if above(second, best) {
+        (best, second) = (second, best);
+    }
+    for met in rest.iter().map(scored) {
         if above(met, second) {
             second = met;
             if above(met, best) {
-                second = best;
-                best = met;
+                (best, second) = (met, best);
             }
         }
     }
+    let second = second.1;
     Backup {
         number: 0,
         family: second.family,
