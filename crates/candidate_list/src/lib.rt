@@ -41,8 +41,8 @@ pub struct Candidate {
 
 // What was loaded: whether a record was refused, and the words of a route table with the entries of those before it.
 struct Loaded {
-    pub wrong: bool,
-    pub words: [u32; WORDS],
+    wrong: bool,
+    words: [u32; WORDS],
 }
 
 // The address of a record, unless it has none.
