@@ -40,13 +40,13 @@ pub struct Candidate {
 }
 
 // What was loaded: whether a record was refused, and the words of a route table with the entries of those before it.
-pub struct Loaded {
-    pub wrong: bool,
-    pub words: [u32; WORDS],
+struct Loaded {
+    wrong: bool,
+    words: [u32; WORDS],
 }
 
 // The address of a record, unless it has none.
-pub enum Originator {
+enum Originator {
     Known(Address),
     Nobody,
 }

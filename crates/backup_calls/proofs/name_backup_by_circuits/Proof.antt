@@ -17,7 +17,7 @@ returns c =
     let start = c .before .before .before .before .before in
     let a = start .args in
     let told = rw (settings-part (a .s .now) (start .pre .0)) at (c .name-backup-by-circuits .ensures) in
-    (told .0, (told .1, (told .2, takes-over-by (segmentIn (a .s .now)) (start .pre .0 .table .sound) (start .pre .0 .settings .sound) (a .tag) _ (circuitsIn (now (a .circuits))) (told .0) (told .1))))
+    (told .0, (told .1 .0, (told .1 .1, takes-over-by (segmentIn (a .s .now)) (start .pre .0 .table .sound) (start .pre .0 .settings .sound) (a .tag) _ (circuitsIn (now (a .circuits))) (told .0) (told .1 .0))))
 
 pub name-backup-by-circuits-spec : {M : Type 1} → statement M
 name-backup-by-circuits-spec =
