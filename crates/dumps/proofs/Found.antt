@@ -10,8 +10,8 @@ use lib.Dec.{eqb}
 use borrow.Author.Tests.{eqb-true, eq-eqb, ne-eqb}
 use Rattle.lists.specs.Lists.{Every}
 use Rattle.lists.proofs.Bools.{cond-by}
-use Rattle.frames.specs.Frames.{Front, nothing, bad, cut, whole, front}
-use Rattle.frames.proofs.Laws.{recordOf, whole-record}
+use Rattle.frames.specs.Frames.{Front, nothing, bad, cut, whole, front, recordOf}
+use Rattle.frames.proofs.Laws.{whole-record}
 use Rattle.judgement.specs.Judgement.{judgedOf, isBad}
 use Rattle.dumps.specs.declared.Place.{Place}
 use Rattle.dumps.specs.Dumps.{BenchRecord, Dump, broken, records, led, opened, recordsFor, recordsOf, announces, counts, standing, lastAmong, lastOf, lastIn}
