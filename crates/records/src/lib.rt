@@ -50,11 +50,14 @@ fn carry_out(
     requires { ⌜ (at + 48 ≤ length (now out)) × (length (now payload) ≤ 255) × Valid (now t) ⌝ }
     ensures { λ r. ⌜ Stepped (now (out .entry)) at (turn (stateIn phase (now (t .entry))) kind (now (payload .entry))) r (now (t .exit)) (now (out .exit)) ⌝ }
 {
-    match phase {
-        Phase::Start => judged_turn(t, true, kind, payload, out, at),
-        Phase::Running => judged_turn(t, false, kind, payload, out, at),
-        Phase::Ended => Step { phase, at },
-    }
+    let first = match phase {
+        Phase::Start => true,
+        Phase::Running => false,
+        Phase::Ended => {
+            return Step { phase, at };
+        }
+    };
+    judged_turn(t, first, kind, payload, out, at)
 }
 
 // One whole record, in any state: its line is put from position `at` on. Where fewer than 48 octets are left there, or where the payload has more than
