@@ -38,7 +38,7 @@ fn judged_turn(
     }
 }
 
-// One whole record, in any state.
+// One whole record, in any state. The first is judged here, by its kind, so that the judgement of the others stands alone.
 fn carry_out(
     t: &mut [u32],
     phase: Phase,
@@ -50,14 +50,16 @@ fn carry_out(
     requires { ⌜ (at + 48 ≤ length (now out)) × (length (now payload) ≤ 255) × Valid (now t) ⌝ }
     ensures { λ r. ⌜ Stepped (now (out .entry)) at (turn (stateIn phase (now (t .entry))) kind (now (payload .entry))) r (now (t .exit)) (now (out .exit)) ⌝ }
 {
-    let first = match phase {
-        Phase::Start => true,
-        Phase::Running => false,
-        Phase::Ended => {
-            return Step { phase, at };
+    match phase {
+        Phase::Start => {
+            if kind != 0 {
+                return turns::refuse(out, at);
+            }
+            opening::begin(t, payload, out, at)
         }
-    };
-    judged_turn(t, first, kind, payload, out, at)
+        Phase::Running => judged_turn(t, false, kind, payload, out, at),
+        Phase::Ended => Step { phase, at },
+    }
 }
 
 // One whole record, in any state: its line is put from position `at` on. Where fewer than 48 octets are left there, or where the payload has more than
