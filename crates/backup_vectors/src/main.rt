@@ -66,7 +66,7 @@ fn weighed() {
     let address = backup.address;
     show_number(
         b"under 1: a tie, the backup",
-        (address[0] / 0x1000000) as u64,
+        (address[0] / 0x1000000 % 256) as u64,
         138,
     );
 }

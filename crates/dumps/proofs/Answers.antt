@@ -2,7 +2,7 @@
 use Prim.Native.Nat.{ℕ, _+_, _-_, _≤_}
 use native.Mathlib.Omega.{arith}
 use mathlib.Core.Path.{_≡_, refl, ap, _∙_, sym, subst}
-use mathlib.Core.Bool.{Bool, true, false, cond, not, _||_, _&&_}
+use mathlib.Core.Bool.{Bool, true, false, _||_}
 use mathlib.Core.List.{List, []}
 use lib.ListN.{length, take, drop}
 use lib.Dec.{eqb}
@@ -12,7 +12,7 @@ use Rattle.lists.proofs.Checks.{refused-at, refused-none}
 use Rattle.address.specs.Address.{isZero}
 use Rattle.dumps.specs.declared.Place.{Place}
 use Rattle.dumps.specs.Dumps.{recordsOf, lastIn}
-use Rattle.dumps.specs.Answers.{isBroken, holds, lastNumber, dumpOf, PartOf, Last, Answered}
+use Rattle.dumps.specs.Answers.{isBroken, holds, lastNumber, dumpOf, Answered}
 use Rattle.dumps.proofs.Found.{Found, found, broken-number}
 
 -- a refusal: any number but 0, and an empty part

@@ -1,15 +1,15 @@
 -- Which records count for an address: the originator in the payload of an announcement, and what a record is to the search. Assumes nothing.
 use Prim.Native.Nat.{ℕ, suc, _+_, _≤_}
 use native.Mathlib.Omega.{arith}
-use mathlib.Core.Path.{_≡_, refl, ap, _∙_, sym}
-use mathlib.Core.Bool.{Bool, true, false, _&&_, and-false, and-true}
+use mathlib.Core.Path.{_≡_, ap, _∙_, sym}
+use mathlib.Core.Bool.{Bool, true, false, and-false, and-true}
 use mathlib.Core.List.{List, [], _∷_}
 use lib.ListN.{length, getD, take}
 use lib.Seq.{length-take-le, getD-take}
 use lib.Dec.{eqb}
 use borrow.Author.Tests.{eq-eqb, ne-eqb}
 use Rattle.octets.specs.Octets.{numberOf, wordAt, sameNumbers}
-use Rattle.octets.proofs.Laws.{take-elements, word-elements}
+use Rattle.octets.proofs.Laws.{take-elements}
 use Rattle.address.specs.Address.{addressRow}
 use Rattle.route.specs.Route.{totalOf, ipv4In, ipv6In, routeAddress, routeNumber}
 use Rattle.route.proofs.Laws.{total-least, originator-six, originator-four}

@@ -1,4 +1,4 @@
--- Laws of dumps: addresses that are the same, which records count, the reading from left to right, the last record, and the answers.
+-- Laws of dumps: which records count, the reading from left to right, the last record, and the answers.
 mod Equal
 mod Counted
 mod Scan

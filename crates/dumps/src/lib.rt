@@ -18,14 +18,15 @@ ghost use Rattle.dumps.specs.Dumps.{routeIn, announces, lastIn};
 ghost use Rattle.dumps.specs.Reads.{recordRead, readAt};
 ghost use Rattle.dumps.specs.Answers.{Answered};
 
-// Where a record of a dump stands: with the number 0 its octets, mark and length included, are `len` from `start` on. With 9 there is no such record, and with 16 the dump breaks the rules.
+// Where a record of a dump stands: with the number 0 its octets, mark and length included, are `len` from `start` on. With 9 there is no such record, and with 16 the dump breaks
+// the rules of records.
 struct Place {
     number: u8,
     start: usize,
     len: usize,
 }
 
-// What stands at a position of a dump: its end, an octet that breaks the rules, or a record, passed over or counted, with the position after it.
+// What stands at a position of a dump: its end, a record that breaks the rules, or a good one, passed over or counted, with the position after it.
 enum Read {
     End,
     Broken,

@@ -8,10 +8,10 @@ use mathlib.Core.List.{List, [], _∷_, _++_, append-assoc}
 use lib.ListN.{length, getD, take, drop, replicate, length-append, length-drop, drop-of-length-le, take-append-drop, List·getD-append}
 use lib.Seq.{take-at, take-suc, take-length}
 use lib.Dec.{eqb}
-use borrow.Author.Tests.{eq-eqb, ne-eqb, le-ltb, lt-ltb}
+use borrow.Author.Tests.{eq-eqb, ne-eqb, eqb-true, le-ltb, lt-ltb, ltb-false}
 use Rattle.lists.specs.Lists.{bit, Every}
-use Rattle.lists.proofs.Bools.{eq-not}
-use Rattle.lists.proofs.Checks.{refused-at, refused-none}
+use Rattle.lists.proofs.Bools.{cond-by}
+use Rattle.lists.proofs.Checks.{refused-at, refused-none, passed}
 use Rattle.octets.specs.Octets.{octetsOf, stored}
 use Rattle.octets.proofs.Laws.{length-octets, stored-fits, stored-front, stored-after, stored-stored}
 use Rattle.address.specs.Address.{rowUnder, addressRow, IsAddress, ipv4, ipv6, familyOf, addressWords, isZero}
@@ -200,7 +200,12 @@ records-put i l k d x y at h e room q f =
     let fits : at + length rec ≤ length d = omega (arith, e, room, m, length-append a rec) in
     f ∙ ap (λ (z : List ℕ). stored z at rec) q ∙ stored-stored d 33 a rec at (sym e) fits ∙ ap (stored d 33) (sym (entries-next i l k h))
 
--- WHAT THE WRITER ANSWERS
+-- WHAT THE WRITER ANSWERS: what it tells to have written lies within the buffer
+pub length-within : (t : Table) (n : ℕ) → logLength t n ≤ n
+unfolding logLength logNumber
+length-within t n =
+    cond-by (λ (m : ℕ). m ≤ n) (eqb (logNumber t n) 0) (λ e. ltb-false n (length (logOf t)) (passed _ refl (eqb-true (logNumber t n) 0 e) .1 .0)) (λ _. omega arith)
+
 module _ (t : Table) (d : List ℕ) where
   -- of its answer n and l, and of what the buffer then holds
   abbrev pub Wrote : ℕ → ℕ → List ℕ → Type 0

@@ -1,18 +1,19 @@
 -- Which turn a record's is, by what it is and the phase. Assumes nothing.
 use Prim.Native.Nat.{ℕ, _≤_}
 use mathlib.Core.Path.{_≡_, ap, sym}
-use mathlib.Core.Bool.{Bool, true, false}
+use mathlib.Core.Bool.{Bool, false}
 use mathlib.Core.List.{List, []}
 use lib.ListN.{length}
+use borrow.Author.Tests.{eq-eqb, ne-eqb}
 use Rattle.layout.specs.Table.{Table}
 use Rattle.layout.specs.Words.{tableIn, Valid}
 use Rattle.answer_lines.proofs.Laws.{written-none}
 use Rattle.turns.specs.declared.Phase.{Phase}
 use Rattle.turns.specs.declared.Phase.the-variants.{Start, Running, Ended}
-use Rattle.turns.specs.Turns.{Turn, stateIn, atEnd}
+use Rattle.turns.specs.Turns.{Turn, stateIn, atEnd, badTurn, textTurn}
 use Rattle.turns.specs.Steps.{Stepped}
 use Rattle.turns.proofs.Laws.{stepped-as}
-use Rattle.judgement.specs.Judgement.{judgedOf}
+use Rattle.judgement.specs.Judgement.{firstOf, judgedOf}
 use Rattle.judgement.specs.declared.Judged.{Judged}
 use Rattle.records.specs.Records.{turnOf, judgedTurn, turnIn}
 
@@ -23,9 +24,13 @@ turn-of t f k p j e = ap (λ (x : Judged). turnOf x t p) (sym e)
 -- ---- which turn a record's is, by phase
 
 module _ (h : Phase) (t : Table) (k : ℕ) (p : List ℕ) where
-  pub turn-first : h ≡ Start → judgedTurn t true k p ≡ turnIn h t k p
-  unfolding turnIn
-  turn-first q = rw q
+  pub turn-begin : h ≡ Start → k ≡ 0 → textTurn t p ≡ turnIn h t k p
+  unfolding turnIn turnOf judgedOf firstOf
+  turn-begin q e = rw (q, eq-eqb k 0 e)
+
+  pub turn-none : h ≡ Start → (k ≡ 0 → ⊥) → badTurn t ≡ turnIn h t k p
+  unfolding turnIn turnOf judgedOf firstOf
+  turn-none q e = rw (q, ne-eqb k 0 e)
 
   pub turn-later : h ≡ Running → judgedTurn t false k p ≡ turnIn h t k p
   unfolding turnIn

@@ -16,19 +16,12 @@ ghost use Rattle.records.specs.Records.{judgedTurn, turn, takes};
 // The most octets that a record's payload has.
 const MAX_PAYLOAD: usize = 255;
 
-// A record, the first where `first` says so: judged, and carried out.
-fn judged_turn(
-    t: &mut [u32],
-    first: bool,
-    kind: u8,
-    payload: &[u8],
-    out: &mut [u8],
-    at: usize,
-) -> Step
+// A record after the first: judged, and carried out. No text of an identifier comes here; its turn stands for it as for any other record.
+fn later(t: &mut [u32], kind: u8, payload: &[u8], out: &mut [u8], at: usize) -> Step
     requires { ⌜ (at + 48 ≤ length (now out)) × (length (now payload) ≤ 255) × Valid (now t) ⌝ }
-    ensures { λ r. ⌜ Stepped (now (out .entry)) at (judgedTurn (tableIn (now (t .entry))) first kind (now (payload .entry))) r (now (t .exit)) (now (out .exit)) ⌝ }
+    ensures { λ r. ⌜ Stepped (now (out .entry)) at (judgedTurn (tableIn (now (t .entry))) false kind (now (payload .entry))) r (now (t .exit)) (now (out .exit)) ⌝ }
 {
-    let judged = judgement::judge(first, kind, payload);
+    let judged = judgement::judge(false, kind, payload);
     match judged {
         Judged::Text => opening::begin(t, payload, out, at),
         Judged::Announcement => turns::announce(t, payload, out, at),
@@ -38,7 +31,7 @@ fn judged_turn(
     }
 }
 
-// One whole record, in any state.
+// One whole record, in any state. The first is judged here, by its kind, so that the judgement of the others stands alone.
 fn carry_out(
     t: &mut [u32],
     phase: Phase,
@@ -51,8 +44,13 @@ fn carry_out(
     ensures { λ r. ⌜ Stepped (now (out .entry)) at (turn (stateIn phase (now (t .entry))) kind (now (payload .entry))) r (now (t .exit)) (now (out .exit)) ⌝ }
 {
     match phase {
-        Phase::Start => judged_turn(t, true, kind, payload, out, at),
-        Phase::Running => judged_turn(t, false, kind, payload, out, at),
+        Phase::Start => {
+            if kind != 0 {
+                return turns::refuse(out, at);
+            }
+            opening::begin(t, payload, out, at)
+        }
+        Phase::Running => later(t, kind, payload, out, at),
         Phase::Ended => Step { phase, at },
     }
 }

@@ -1,6 +1,5 @@
 -- `names_ipv4` meets its contract: the family, then the word. Assumes nothing.
 use native.Mathlib.Omega.{arith}
-use borrow.Author.Needs.{needs}
 use Rattle.dumps.proofs.Counted.{total-25}
 use Rattle.dumps.proofs.Equal.{four-other, four-same}
 use Rattle.dumps.proofs.names_ipv4.Statement.{statement}

@@ -2,7 +2,6 @@
 use Prim.Native.Nat.{_≤_}
 use native.Mathlib.Omega.{arith}
 use lib.ListN.{length}
-use borrow.Author.Needs.{needs}
 use Rattle.dumps.proofs.Counted.{total-25, total-37}
 use Rattle.dumps.proofs.Equal.{six-other, six-fourth, six-third, six-second, six-first}
 use Rattle.dumps.proofs.names_ipv6.Statement.{statement}

@@ -1,7 +1,6 @@
 -- `first_record` meets its contract. Assumes nothing.
 use borrow.Author.Tests.{eq-eqb, ne-eqb}
 use Rattle.judgement.specs.Judgement.{firstOf}
-use borrow.Author.Needs.{needs}
 use Rattle.judgement.proofs.first_record.Statement.{statement}
 use Rattle.judgement.proofs.first_record.Tie as tie
 

@@ -1,5 +1,4 @@
 -- `judge` meets its contract: the first record, or a later one. Assumes nothing.
-use mathlib.Core.Path.{_∙_}
 use Rattle.judgement.specs.Judgement.{judgedOf}
 use borrow.Author.Needs.{needs}
 use Rattle.judgement.proofs.judge.Statement.{statement}

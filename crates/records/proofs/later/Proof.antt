@@ -1,6 +1,7 @@
--- `judged_turn` meets its contract: each case of what the record is has its turn. Assumes nothing.
+-- `later` meets its contract: each case of what the record is has its turn. Assumes nothing.
 use Prim.Native.Nat.{ℕ}
 use mathlib.Core.Path.{_≡_, sym, _∙_, subst}
+use mathlib.Core.Bool.{false}
 use mathlib.Core.List.{List}
 use Rattle.layout.specs.Words.{tableIn}
 use Rattle.turns.proofs.Laws.{stepped-as}
@@ -11,8 +12,8 @@ use Rattle.judgement.proofs.Laws.{Fits, judged-fits}
 use Rattle.records.specs.Records.{turnOf, judgedTurn}
 use Rattle.records.proofs.Turns.{turn-of}
 use borrow.Author.Needs.{needs}
-use Rattle.records.proofs.judged_turn.Statement.{statement}
-use Rattle.records.proofs.judged_turn.Tie as tie
+use Rattle.records.proofs.later.Statement.{statement}
+use Rattle.records.proofs.later.Tie as tie
 
 -- what the payload has, and whose turn it is, where the record is j
 module _ (c : tie.After-judge) where
@@ -22,14 +23,14 @@ module _ (c : tie.After-judge) where
   abbrev p : List ℕ
   p = start .args .payload .now
 
-  is : (j : Judged) → c .judge .result ≡ j → judgedOf (start .args .first) (start .args .kind) p ≡ j
+  is : (j : Judged) → c .judge .result ≡ j → judgedOf false (start .args .kind) p ≡ j
   is j e = sym (c .judge .ensures) ∙ e
 
   has : (j : Judged) → c .judge .result ≡ j → Fits j p
-  has j e = subst (λ (x : Judged). Fits x p) (is j e) (judged-fits (start .args .first) (start .args .kind) p)
+  has j e = subst (λ (x : Judged). Fits x p) (is j e) (judged-fits false (start .args .kind) p)
 
-  turn : (j : Judged) → c .judge .result ≡ j → turnOf j (tableIn (start .args .t .now)) p ≡ judgedTurn (tableIn (start .args .t .now)) (start .args .first) (start .args .kind) p
-  turn j e = turn-of (tableIn (start .args .t .now)) (start .args .first) (start .args .kind) p j (is j e)
+  turn : (j : Judged) → c .judge .result ≡ j → turnOf j (tableIn (start .args .t .now)) p ≡ judgedTurn (tableIn (start .args .t .now)) false (start .args .kind) p
+  turn j e = turn-of (tableIn (start .args .t .now)) false (start .args .kind) p j (is j e)
 
 announce-requires : tie.Need-announce-requires
 announce-requires c κs =
@@ -89,8 +90,8 @@ returns-5 c =
     let s = start judged in
     stepped-as (called .refuse .ensures (s .args .t .now) (s .pre .2)) (turn judged Bad (told .enum-told3 .given .1))
 
-pub judged-turn-spec : {M : Type 1} → statement M
-judged-turn-spec =
+pub later-spec : {M : Type 1} → statement M
+later-spec =
     tie.close
     (tie.spec
     (λ c κs. search needs)
