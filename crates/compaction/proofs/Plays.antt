@@ -37,8 +37,9 @@ use Rattle.turns.specs.Turns.{Bench, Turn, running, textTurn, announceTurn}
 use Rattle.records.specs.Records.{turn, turnIn, turnOf, isEnd, first, runOf}
 use Rattle.replays.specs.Played.{Played, playedFrom, played, Leaves, AnswersAlike}
 use Rattle.replays.proofs.Played.{printed, from-nothing, from-record, lines-run, answers-alike}
-use Rattle.log_octets.specs.Log.{electionOf, payloadOf, entryRecords, logOf, logNumber, logLength, logWritten}
-use Rattle.log_octets.proofs.Laws.{length-payload}
+use Rattle.log_payloads.specs.Payload.{electionOf, payloadOf}
+use Rattle.log_payloads.proofs.Laws.{length-payload}
+use Rattle.log_octets.specs.Log.{entryRecords, logOf, logNumber, logLength, logWritten}
 use Rattle.compaction.specs.Compaction.{acceptedLines, PlaysBack}
 
 module _ (i : List ℕ) (re : reserved i ≡ false) where

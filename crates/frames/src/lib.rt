@@ -4,13 +4,13 @@ ghost use mathlib.Core.Path.{_≡_};
 ghost use Rattle.frames.specs.Frames.{frameAt};
 
 // The first octet of the mark,
-const MARK_FIRST: u8 = 0xD5;
+pub const MARK_FIRST: u8 = 0xD5;
 
 // and the second.
-const MARK_SECOND: u8 = 0x4F;
+pub const MARK_SECOND: u8 = 0x4F;
 
 // How many octets stand before the payload: the mark, the kind and the length.
-const HEAD_LENGTH: usize = 4;
+pub const HEAD_LENGTH: usize = 4;
 
 // What stands at a position of a run of octets.
 pub enum Frame {

@@ -1,77 +1,36 @@
 -- Laws of `specs/Log.antt`: how long its parts are, one record more, and what each step of the writer leaves. Assumes nothing.
-use Prim.Native.Nat.{ℕ, zero, suc, _+_, _*_, _-_, _/_, _%_, _≤_, _<_}
+use Prim.Native.Nat.{ℕ, zero, suc, _+_, _≤_, _<_}
 use native.Mathlib.Numerals.{add-one}
 use native.Mathlib.Omega.{arith}
-use mathlib.Core.Path.{_≡_, refl, ap, ap₂, sym, _∙_}
-use mathlib.Core.Bool.{Bool, true, false, cond}
-use mathlib.Core.List.{List, [], _∷_, _++_, append-assoc}
-use lib.ListN.{length, getD, take, drop, replicate, length-append, length-drop, drop-of-length-le, take-append-drop, List·getD-append}
-use lib.Seq.{take-at, take-suc, take-length}
+use mathlib.Core.Path.{_≡_, refl, ap, sym, _∙_}
+use mathlib.Core.Bool.{true, false}
+use mathlib.Core.List.{List, [], _∷_, _++_, append-assoc, append-nil}
+use lib.ListN.{length, getD, take, drop, length-append, take-append-drop}
+use lib.Seq.{take-suc, take-length}
 use lib.Dec.{eqb}
-use borrow.Author.Tests.{eq-eqb, ne-eqb, eqb-true, le-ltb, lt-ltb, ltb-false}
-use Rattle.lists.specs.Lists.{bit, Every}
+use borrow.Author.Tests.{ne-eqb, eqb-true, le-ltb, lt-ltb, ltb-false}
 use Rattle.lists.proofs.Bools.{cond-by}
 use Rattle.lists.proofs.Checks.{refused-at, refused-none, passed}
-use Rattle.octets.specs.Octets.{octetsOf, stored}
-use Rattle.octets.proofs.Laws.{length-octets, stored-fits, stored-front, stored-after, stored-stored}
-use Rattle.address.specs.Address.{rowUnder, addressRow, IsAddress, ipv4, ipv6, familyOf, addressWords, isZero}
-use Rattle.address.specs.declared.Address.{Address}
-use Rattle.address.specs.declared.Family.the-variants.{V4, V6}
+use Rattle.octets.specs.Octets.{stored}
+use Rattle.octets.proofs.Laws.{stored-fits, stored-front, stored-stored}
+use Rattle.address.specs.Address.{IsAddress, ipv4, ipv6, familyOf}
 use Rattle.esi.specs.Reserved.{reserved}
 use Rattle.esi.specs.Text.{textOf}
-use Rattle.esi.proofs.Laws.{length-not-reserved}
 use Rattle.esi.proofs.Places.{length-text}
 use Rattle.route.specs.Route.{totalOf}
-use Rattle.route.proofs.Laws.{total-least}
-use Rattle.route_fields.specs.Fields.{bitsOf, routeOctets, writeRouteNumber, routeWritten}
-use Rattle.route_fields.proofs.Laws.{length-part, length-octets-route, bits-of}
-use Rattle.community.proofs.Laws.{length-community}
-use Rattle.community.specs.Community.{communityOctets, writeNumber, communityWritten}
-use Rattle.layout.specs.Table.{Entry, entryKey, noEntry, AddressRight, Table, WellFormed}
-use Rattle.layout.specs.Words.{kindOf, standingOf}
+use Rattle.route_fields.specs.Fields.{bitsOf}
+use Rattle.layout.specs.Table.{Entry, noEntry, Table}
 use Rattle.frames.specs.Frames.{recordOf}
-use Rattle.log_octets.specs.Log.{electionOf, payloadOf, entryRecords, logOf, logNumber, logLength, logWritten}
+use Rattle.log_payloads.specs.Payload.{payloadOf}
+use Rattle.log_payloads.proofs.Laws.{length-payload}
+use Rattle.log_octets.specs.Log.{entryRecords, logOf, logNumber, logLength, logWritten}
 use Rattle.log_octets.specs.Steps.{recordLength}
-
--- AN ENTRY TAKEN FROM ITS WORDS
-module _ (r w : List ℕ) (ra : IsAddress r) (e : w ≡ addressWords r) where
-  pub address-six : familyOf r ≡ 6 → 6 ∷ getD w 0 0 ∷ getD w 1 0 ∷ getD w 2 0 ∷ getD w 3 0 ∷ [] ≡ r
-  unfolding familyOf addressWords
-  address-six f = go ra
-    where
-      go : IsAddress r → 6 ∷ getD w 0 0 ∷ getD w 1 0 ∷ getD w 2 0 ∷ getD w 3 0 ∷ [] ≡ r
-      go (ipv4 a q) = let n = rw q at f in absurd (omega arith)
-      go (ipv6 a b c d q) = rw (e, q)
-
-  pub address-four : (familyOf r ≡ 6 → ⊥) → 4 ∷ getD w 0 0 ∷ 0 ∷ 0 ∷ 0 ∷ [] ≡ r
-  unfolding familyOf addressWords
-  address-four f = go ra
-    where
-      go : IsAddress r → 4 ∷ getD w 0 0 ∷ 0 ∷ 0 ∷ 0 ∷ [] ≡ r
-      go (ipv4 a q) = rw (e, q)
-      go (ipv6 a b c d q) = absurd (f (ap (λ (l : List ℕ). getD l 0 0) q))
-
--- a number and the bit behind it
-pub half : (n : ℕ) (b : Bool) → (n * 2 + bit b) / 2 ≡ n
-half n true = omega arith
-half n false = omega arith
-
-pub odd : (n : ℕ) (b : Bool) → eqb ((n * 2 + bit b) % 2) 1 ≡ b
-odd n true = eq-eqb ((n * 2 + 1) % 2) 1 (omega arith)
-odd n false = ne-eqb ((n * 2 + 0) % 2) 1 (λ h. omega (arith, h))
 
 -- LENGTHS
 pub record-of-family : (r : List ℕ) → IsAddress r → 4 + (totalOf (bitsOf r) + 8) ≡ recordLength (familyOf r)
 unfolding bitsOf familyOf totalOf recordLength
 record-of-family r (ipv4 a e) = rw e
 record-of-family r (ipv6 a b c d e) = rw e
-
-length-route : (i : List ℕ) (r : List ℕ) → length i ≡ 10 → IsAddress r → length (routeOctets (replicate 8 0) i r) ≡ totalOf (bitsOf r)
-unfolding routeOctets
-length-route i r l ra = simp length-append (omega (arith, l, length-part r ra))
-
-pub length-payload : (i : List ℕ) (e : Entry) → length i ≡ 10 → IsAddress (e .address) → length (payloadOf i e) ≡ totalOf (bitsOf (e .address)) + 8
-length-payload i e l ra = length-append (routeOctets (replicate 8 0) i (e .address)) (communityOctets (electionOf e)) ∙ ap₂ (λ (m n : ℕ). m + n) (length-route i (e .address) l ra) (length-community (electionOf e))
 
 pub record-most : (r : List ℕ) → IsAddress r → recordLength (familyOf r) ≤ 49
 unfolding recordLength familyOf
@@ -84,15 +43,11 @@ unfolding entryRecords
 entries-append i [] m = refl
 entries-append i (e ∷ l) m = ap (recordOf 1 (payloadOf i e) ++_) (entries-append i l m) ∙ sym (append-assoc (recordOf 1 (payloadOf i e)) (entryRecords i l) (entryRecords i m))
 
-pub append-none : (l : List ℕ) → l ++ [] ≡ l
-append-none [] = refl
-append-none (x ∷ l) = ap (x ∷_) (append-none l)
-
 pub entries-next : (i : List ℕ) (l : List Entry) (k : ℕ) → k < length l → entryRecords i (take (k + 1) l) ≡ entryRecords i (take k l) ++ recordOf 1 (payloadOf i (getD l k noEntry))
 unfolding entryRecords
 entries-next i l k h =
     let more : take (k + 1) l ≡ take k l ++ getD l k noEntry ∷ [] = rw add-one (take-suc l k noEntry h) in
-    ap (entryRecords i) more ∙ entries-append i (take k l) (getD l k noEntry ∷ []) ∙ ap (entryRecords i (take k l) ++_) (append-none (recordOf 1 (payloadOf i (getD l k noEntry))))
+    ap (entryRecords i) more ∙ entries-append i (take k l) (getD l k noEntry ∷ []) ∙ ap (entryRecords i (take k l) ++_) (append-nil (recordOf 1 (payloadOf i (getD l k noEntry))))
 
 pub entries-all : (i : List ℕ) (l : List Entry) (k : ℕ) → k ≡ length l → entryRecords i (take k l) ≡ entryRecords i l
 entries-all i l k e = ap (λ (n : ℕ). entryRecords i (take n l)) e ∙ ap (entryRecords i) (take-length l)
@@ -123,62 +78,6 @@ length-some i (e ∷ l) (suc k) =
     let b = length-append (recordOf 1 (payloadOf i e)) (entryRecords i l) in
     omega (arith, h, a, b)
 
--- A PAYLOAD, put together from the route that was written and the community
-module _ (i : List ℕ) (e : Entry) (re : reserved i ≡ false) (right : AddressRight e) where
-  abbrev r : List ℕ
-  r = e .address
-
-  abbrev o : List ℕ
-  o = routeOctets (replicate 8 0) i r
-
-  total : length o ≡ totalOf (bitsOf r)
-  total = length-octets-route (replicate 8 0) i r refl re (right .0)
-
-  accepted : (d : List ℕ) → length d ≡ 45 → 0 ≡ writeRouteNumber (replicate 8 0) i r (length d)
-  unfolding writeRouteNumber
-  accepted d l =
-      let room : totalOf (bitsOf r) ≤ length d = omega (arith, l, record-of-family r (right .0), record-most r (right .0)) in
-      refused-none _ (refl, (re, (right .1, (le-ltb (length d) (totalOf (bitsOf r)) room, tt))))
-
-  -- what the route's writer leaves in a buffer of 45 octets
-  route-left : (d b : List ℕ) → length d ≡ 45 → b ≡ routeWritten d (replicate 8 0) i r → b ≡ o ++ drop (totalOf (bitsOf r)) d
-  unfolding routeWritten
-  route-left d b l q = q ∙ rw (← accepted d l)
-
-  module _ (d b : List ℕ) (l : length d ≡ 45) (q : b ≡ routeWritten d (replicate 8 0) i r) (n : ℕ) (t : n ≡ totalOf (getD b 20 0)) where
-    bits : getD b 20 0 ≡ bitsOf r
-    bits =
-        let k : 20 < length o = omega (arith, total, total-least (bitsOf r)) in
-        ap (λ (x : List ℕ). getD x 20 0) (route-left d b l q) ∙ List·getD-append o (drop (totalOf (bitsOf r)) d) 0 20 k ∙ bits-of (replicate 8 0) i r refl re (right .0)
-
-    total-is : n ≡ totalOf (bitsOf r)
-    total-is = t ∙ ap totalOf bits
-
-    pub total-small : n + 8 ≤ 45
-    total-small = omega (arith, total-is, record-of-family r (right .0), record-most r (right .0))
-
-    pub payload-length : n + 8 ≡ length (payloadOf i e)
-    payload-length = ap (_+ 8) total-is ∙ sym (length-payload i e (length-not-reserved i re) (right .0))
-
-    pub payload-taken : (c x : List ℕ) → c ≡ communityOctets (electionOf e) → x ≡ stored b n c → take (n + 8) x ≡ payloadOf i e
-    payload-taken c x f g =
-        let z : List ℕ = drop (totalOf (bitsOf r)) d in
-        let lc : length c ≡ 8 = ap length f ∙ length-community (electionOf e) in
-        let room : length c ≤ length z = rw (length-drop (totalOf (bitsOf r)) d) (omega (arith, lc, l, total-is, total-small)) in
-        let put : x ≡ (o ++ c) ++ drop (length c) z =
-        g ∙ ap (λ (y : List ℕ). stored y n c) (route-left d b l q) ∙ stored-after o z c n (total ∙ sym total-is) room in
-        let m : length (o ++ c) ≡ n + 8 = length-append o c ∙ omega (arith, lc, total, total-is) in
-        ap (take (n + 8)) put ∙ take-at (o ++ c) (drop (length c) z) (n + 8) m ∙ ap (o ++_) f
-
--- A COMMUNITY, as its writer leaves it
-pub community-left : (d b : List ℕ) (e : Entry) (a : ℕ) (ac dp : Bool) (p : ℕ) → length d ≡ 8 → a ≤ 31 → a ≡ e .algorithm → ac ≡ e .«ac_df» → dp ≡ e .dp → p ≡ e .preference
-    → b ≡ communityWritten d a ac dp p → b ≡ communityOctets (electionOf e)
-unfolding communityWritten writeNumber
-community-left d b e a ac dp p l h ea eac edp ep q =
-    let n : 0 ≡ writeNumber a (length d) = refused-none _ (le-ltb 31 a h, (le-ltb (length d) 8 (omega (arith, l)), tt)) in
-    let z : drop 8 d ≡ [] = drop-of-length-le d {i = 8} (omega (arith, l)) in
-    q ∙ rw (← n, z, ea, eac, edp, ep) (append-none (communityOctets (electionOf e)))
-
 -- A RECORD, head and payload
 pub record-put : (d x y p : List ℕ) (at k : ℕ) → at + (4 + length p) ≤ length d → x ≡ stored d at (0xD5 ∷ 0x4F ∷ k ∷ length p ∷ []) → y ≡ stored x (at + 4) p → y ≡ stored d at (recordOf k p)
 record-put d x y p at k h e f = f ∙ ap (λ (z : List ℕ). stored z (at + 4) p) e ∙ stored-stored d at (0xD5 ∷ 0x4F ∷ k ∷ length p ∷ []) p (at + 4) refl (omega arith)
@@ -189,7 +88,7 @@ records-none i l d h =
     let e : 33 + length (entryRecords i (take 0 l)) ≡ 33 = ap (λ (x : List ℕ). 33 + length x) (entries-none i l) in
     sym (
     stored-fits d 33 (entryRecords i (take 0 l)) (omega (arith, e))
-    ∙ rw (e, entries-none i l, append-none) (take-append-drop 33 d))
+    ∙ rw (e, entries-none i l, append-nil) (take-append-drop 33 d))
 
 pub records-put : (i : List ℕ) (l : List Entry) (k : ℕ) (d x y : List ℕ) (at : ℕ) → k < length l → at ≡ 33 + length (entryRecords i (take k l)) → 33 + length (entryRecords i l) ≤ length d
     → x ≡ stored d 33 (entryRecords i (take k l)) → y ≡ stored x at (recordOf 1 (payloadOf i (getD l k noEntry))) → y ≡ stored d 33 (entryRecords i (take (k + 1) l))

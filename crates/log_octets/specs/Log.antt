@@ -1,6 +1,4 @@
--- A table written out as a run of bench records (document 02, M-112): the text of its identifier first, then one announcement for each entry, in address order.
---   electionOf e       == what the election community of the entry e says
---   payloadOf i e      == the payload of an announcement of the entry e to the table of i: the route with a distinguisher of zeros, and one community
+-- A table written out as a run of bench records (document 02, M-112): the text of its identifier first, then one announcement for each entry, in address order. The payload of an announcement is said in `log_payloads`.
 --   entryRecords i l   == the records of the entries l, one after the other
 --   logOf t            == the whole run
 --   logNumber t n      == the number that the writer answers for a buffer of n octets: 4 for the table of a reserved identifier, 14 for too little room
@@ -9,23 +7,15 @@
 use Prim.Native.Nat.{ℕ}
 use mathlib.Core.Bool.{cond}
 use mathlib.Core.List.{List, [], _∷_, _++_}
-use lib.ListN.{length, drop, replicate}
+use lib.ListN.{length, drop}
 use lib.Dec.{ltb, eqb}
 use Rattle.lists.specs.Checks.{firstRefusal}
 use Rattle.esi.specs.Reserved.{reserved}
 use Rattle.esi.specs.Text.{textOf}
-use Rattle.route_fields.specs.Fields.{routeOctets}
-use Rattle.community.specs.declared.Election.{Election}
-use Rattle.community.specs.Community.{electionUnder, communityOctets}
 use Rattle.layout.specs.Table.{Entry, Table}
+use Rattle.log_payloads.specs.Payload.{payloadOf}
 use Rattle.frames.specs.Frames.{recordOf}
 use Rattle.refusals.specs.Refusals.{esiReserved, bufferShort}
-
-abbrev pub electionOf : Entry → Election
-electionOf e = electionUnder (e .algorithm) (e .«ac_df») (e .dp) (e .preference)
-
-abbrev pub payloadOf : List ℕ → Entry → List ℕ
-payloadOf i e = routeOctets (replicate 8 0) i (e .address) ++ communityOctets (electionOf e)
 
 -- an announcement is a record of kind 1, and the text of an identifier one of kind 0
 unfoldable pub entryRecords : List ℕ → List Entry → List ℕ

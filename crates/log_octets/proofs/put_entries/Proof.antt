@@ -11,7 +11,8 @@ use Rattle.octets.proofs.Laws.{length-stored}
 use Rattle.layout.specs.Table.{Entry, Table, noEntry}
 use Rattle.layout.specs.Words.{tableIn}
 use Rattle.frames.specs.Frames.{recordOf}
-use Rattle.log_octets.specs.Log.{payloadOf, entryRecords}
+use Rattle.log_octets.specs.Log.{entryRecords}
+use Rattle.log_payloads.specs.Payload.{payloadOf}
 use Rattle.log_octets.proofs.Laws.{length-log, length-some, entries-next, entries-none, entries-all, records-none, records-put}
 use Rattle.log_octets.proofs.put_entries.Statement.{statement}
 use Rattle.log_octets.proofs.put_entries.Tie as tie

@@ -3,7 +3,7 @@ use Prim.Native.Nat.{ℕ, _+_, _≤_}
 use native.Mathlib.Omega.{arith}
 use mathlib.Core.Path.{_≡_, refl, ap, sym, _∙_}
 use mathlib.Core.Bool.{false}
-use mathlib.Core.List.{List, []}
+use mathlib.Core.List.{List, append-nil}
 use lib.ListN.{length, take, replicate}
 use borrow.Author.Needs.{needs}
 use Rattle.octets.specs.Octets.{stored}
@@ -16,7 +16,7 @@ use Rattle.layout.specs.Table.{Table}
 use Rattle.layout.specs.Words.{tableIn}
 use Rattle.frames.specs.Frames.{recordOf}
 use Rattle.log_octets.specs.Log.{entryRecords, logOf}
-use Rattle.log_octets.proofs.Laws.{append-none, length-log, wrote-reserved, wrote-short, wrote}
+use Rattle.log_octets.proofs.Laws.{length-log, wrote-reserved, wrote-short, wrote}
 use Rattle.log_octets.proofs.write_log.Statement.{statement}
 use Rattle.log_octets.proofs.write_log.Tie as tie
 
@@ -52,7 +52,7 @@ module _ (text : tie.After-write-text) where
   free-owner = sym (ap reserved (owner asked)) ∙ free
 
   text-is : text .write-text .last .0 ≡ textOf (i asked)
-  text-is = text .write-text .ensures .1 .0 ∙ written-text (replicate 29 0) (i asked) (number-written (replicate 29 0) (i asked) free (omega arith)) ∙ append-none (textOf (i asked))
+  text-is = text .write-text .ensures .1 .0 ∙ written-text (replicate 29 0) (i asked) (number-written (replicate 29 0) (i asked) free (omega arith)) ∙ append-nil (textOf (i asked))
 
   -- how long it is, and how much room there is
   text-length : length (text .write-text .last .0) ≡ 29

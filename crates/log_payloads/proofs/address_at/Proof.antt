@@ -5,9 +5,9 @@ use Rattle.lists.proofs.Lists.{every-in}
 use Rattle.address.specs.Address.{addressRow}
 use Rattle.layout.specs.Table.{noEntry, AddressRight}
 use Rattle.layout.specs.Words.{tableIn}
-use Rattle.log_octets.proofs.Laws.{address-six, address-four}
-use Rattle.log_octets.proofs.address_at.Statement.{statement}
-use Rattle.log_octets.proofs.address_at.Tie as tie
+use Rattle.log_payloads.proofs.Laws.{address-six, address-four}
+use Rattle.log_payloads.proofs.address_at.Statement.{statement}
+use Rattle.log_payloads.proofs.address_at.Tie as tie
 
 returns : tie.Need-returns
 unfolding addressRow

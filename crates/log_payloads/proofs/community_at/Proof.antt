@@ -8,9 +8,9 @@ use borrow.Author.Needs.{needs}
 use Rattle.lists.proofs.Lists.{every-in}
 use Rattle.layout.specs.Table.{Entry, noEntry, EntryRight}
 use Rattle.layout.specs.Words.{kindOf, standingOf, tableIn}
-use Rattle.log_octets.proofs.Laws.{half, odd, community-left}
-use Rattle.log_octets.proofs.community_at.Statement.{statement}
-use Rattle.log_octets.proofs.community_at.Tie as tie
+use Rattle.log_payloads.proofs.Laws.{half, odd, community-left}
+use Rattle.log_payloads.proofs.community_at.Statement.{statement}
+use Rattle.log_payloads.proofs.community_at.Tie as tie
 
 -- what is known once both parts of the word are
 module _ (told : tie.After-standing-at) where

@@ -8,9 +8,9 @@ use Rattle.lists.proofs.Lists.{every-in}
 use Rattle.layout.specs.Table.{Entry, noEntry, AddressRight}
 use Rattle.layout.specs.Words.{tableIn}
 use Rattle.route_fields.specs.Fields.{routeWritten}
-use Rattle.log_octets.proofs.Laws.{total-small, payload-length, payload-taken}
-use Rattle.log_octets.proofs.payload_at.Statement.{statement}
-use Rattle.log_octets.proofs.payload_at.Tie as tie
+use Rattle.log_payloads.proofs.Laws.{total-small, payload-length, payload-taken}
+use Rattle.log_payloads.proofs.payload_at.Statement.{statement}
+use Rattle.log_payloads.proofs.payload_at.Tie as tie
 
 -- what is known once the route's length is
 module _ (told : tie.After-total) where
