@@ -1,14 +1,14 @@
 -- Whether the originator of an announcement is the address that is asked for, family by family and word by word. Assumes nothing.
-use Prim.Native.Nat.{ℕ, _+_, _≤_}
+use Prim.Native.Nat.{ℕ, _+_, _%_, _≤_, _<_}
 use native.Mathlib.Omega.{arith}
-use mathlib.Core.Path.{_≡_, sym}
+use mathlib.Core.Path.{_≡_, refl, sym, _∙_}
 use mathlib.Core.Bool.{Bool, false, and-true, and-false}
 use mathlib.Core.List.{List, [], _∷_}
 use lib.ListN.{length, getD}
 use lib.Dec.{eqb}
 use borrow.Author.Tests.{eq-eqb, ne-eqb}
 use Rattle.octets.specs.Octets.{numberOf, wordAt, sameNumbers}
-use Rattle.octets.proofs.Laws.{elements, word-elements}
+use Rattle.octets.proofs.Laws.{elements, number-four, word-elements}
 use Rattle.address.specs.Address.{addressRow}
 use Rattle.address.specs.declared.Address.{Address}
 use Rattle.address.specs.declared.Family.the-variants.{V4, V6}
@@ -26,6 +26,13 @@ module _ (p : List ℕ) (h : totalOf (getD p 20 0) ≤ length p) where
   pub four-same : (v w : ℕ) → (getD p 20 0 ≡ 128 → ⊥) → v ≡ numberOf (elements 4 21 p) → eqb v w ≡ sameNumbers (routeAddress (routeIn p)) (4 ∷ w ∷ 0 ∷ 0 ∷ 0 ∷ [])
   unfolding sameNumbers
   four-same v w n q = rw (named-ipv4 p h n, word-elements 21 v p (omega (arith, total-25 p h)) q) (sym (and-true (eqb (wordAt 21 p) w)))
+
+  -- another last octet
+  pub four-octet : (w : ℕ) → (getD p 20 0 ≡ 128 → ⊥) → getD p 24 0 < 256 → (getD p 24 0 ≡ w % 256 → ⊥) → false ≡ sameNumbers (routeAddress (routeIn p)) (4 ∷ w ∷ 0 ∷ 0 ∷ 0 ∷ [])
+  four-octet w n l d =
+      let v : ℕ = numberOf (elements 4 21 p) in
+      let k = number-four (getD p 21 0) (getD p 22 0) (getD p 23 0) (getD p 24 0) in
+      sym (ne-eqb v w (λ e. d (omega (arith, e, k, l)))) ∙ four-same v w n refl
 
   -- ---- against an IPv6 address, from its last word on
 

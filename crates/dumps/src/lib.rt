@@ -34,12 +34,15 @@ enum Read {
     Counted(usize),
 }
 
-// Whether the originator in the payload of an announcement is the IPv4 address of a word.
+// Whether the originator in the payload of an announcement is the IPv4 address of a word. Routers of one site differ in their last octets, so this one is looked at first.
 fn names_ipv4(payload: &[u8], word: u32) -> bool
     requires { ⌜ totalOf (getD (now payload) 20 0) ≤ length (now payload) ⌝ }
     ensures { λ r. ⌜ r ≡ sameNumbers (routeAddress (routeIn (now (payload .entry)))) (4 ∷ word ∷ 0 ∷ 0 ∷ 0 ∷ []) ⌝ }
 {
     if payload[20] == 128 {
+        return false;
+    }
+    if payload[24] != (word % 256) as u8 {
         return false;
     }
     payloads::word_at(payload, 21) == word

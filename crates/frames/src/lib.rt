@@ -1,6 +1,8 @@
 // Cutting a run of octets into records: the mark D5 4F, a kind octet, a length octet, and that many octets (document 01, "The bench
 // program"). Only the frame is judged here; which kinds and lengths are good is for those who read the payload.
 ghost use mathlib.Core.Path.{_≡_};
+ghost use Prim.Native.Nat.{_+_, _<_};
+ghost use lib.ListN.{length};
 ghost use Rattle.frames.specs.Frames.{frameAt};
 
 // The first octet of the mark,
@@ -31,6 +33,23 @@ fn length_in(octet: u8) -> usize
     octet as usize
 }
 
+// What stands at a position of s behind which there are fewer octets than a head has: an octet of the mark that is there and wrong makes the record bad, and else it is cut.
+fn begun_at(s: &[u8], from: usize) -> Frame
+    requires { ⌜ (from < length (now s)) × (length (now s) < from + 4) ⌝ }
+    ensures { λ r. ⌜ r ≡ frameAt (now (s .entry)) from ⌝ }
+{
+    if s[from] != MARK_FIRST {
+        return Frame::Bad;
+    }
+    if s.len() - from < 2 {
+        return Frame::Cut;
+    }
+    if s[from + 1] != MARK_SECOND {
+        return Frame::Bad;
+    }
+    Frame::Cut
+}
+
 // What stands at position `at` of s; a position past the end counts as the end. An octet of the mark that is there and wrong makes the record bad,
 // however few octets there are; a record whose mark is right as far as it goes, and which is not all there, is cut.
 pub fn frame_at(s: &[u8], at: usize) -> Frame
@@ -39,18 +58,15 @@ pub fn frame_at(s: &[u8], at: usize) -> Frame
     if s.len() <= at {
         return Frame::Nothing;
     }
+    let left = s.len() - at;
+    if left < HEAD_LENGTH {
+        return begun_at(s, at);
+    }
     if s[at] != MARK_FIRST {
         return Frame::Bad;
     }
-    let left = s.len() - at;
-    if left < 2 {
-        return Frame::Cut;
-    }
     if s[at + 1] != MARK_SECOND {
         return Frame::Bad;
-    }
-    if left < HEAD_LENGTH {
-        return Frame::Cut;
     }
     let len = length_in(s[at + 3]);
     if left - HEAD_LENGTH < len {

@@ -2,7 +2,7 @@
 use native.Mathlib.Omega.{arith}
 use mathlib.Core.Path.{sym}
 use borrow.Author.Needs.{needs}
-use Rattle.frames.proofs.Answers.{frame-none, frame-first, frame-second, frame-begun, frame-short, frame-whole}
+use Rattle.frames.proofs.Answers.{frame-none, frame-first, frame-second, frame-short, frame-whole}
 use Rattle.frames.proofs.frame_at.Statement.{statement}
 use Rattle.frames.proofs.frame_at.Tie as tie
 
@@ -11,15 +11,10 @@ returns c =
     let a = c .before .before .args in
     sym (frame-none (a .s .now) (a .at) (omega arith))
 
-returns-2 : tie.Need-returns-2
-returns-2 c =
-    let a = c .before .before .before .before .args in
-    sym (frame-first (a .s .now) (a .at) (omega arith) (omega arith))
-
 returns-3 : tie.Need-returns-3
 returns-3 c =
     let a = c .before .before .before .before .before .args in
-    sym (frame-begun (a .s .now) (a .at) (omega arith) (omega arith) (omega arith) (λ h. omega arith))
+    sym (frame-first (a .s .now) (a .at) (omega arith) (omega arith))
 
 returns-4 : tie.Need-returns-4
 returns-4 c =
@@ -28,17 +23,12 @@ returns-4 c =
 
 returns-5 : tie.Need-returns-5
 returns-5 c =
-    let a = c .before .before .before .before .before .before .before .before .args in
-    sym (frame-begun (a .s .now) (a .at) (omega arith) (omega arith) (omega arith) (λ h. omega arith))
+    let a = c .before .before .before .before .before .before .before .before .before .before .args in
+    sym (frame-short (a .s .now) (a .at) (omega arith) (omega arith) (omega arith) (c .before .length-in .result) (omega arith) (omega arith))
 
 returns-6 : tie.Need-returns-6
 returns-6 c =
     let a = c .before .before .before .before .before .before .before .before .before .before .before .args in
-    sym (frame-short (a .s .now) (a .at) (omega arith) (omega arith) (omega arith) (c .before .length-in .result) (omega arith) (omega arith))
-
-returns-7 : tie.Need-returns-7
-returns-7 c =
-    let a = c .before .before .before .before .before .before .before .before .before .before .before .before .args in
     sym (frame-whole (a .s .now) (a .at) (omega arith) (omega arith) (omega arith) (c .before .before .length-in .result) (omega arith) (omega arith))
 
 pub frame-at-spec : {M : Type 1} → statement M
@@ -47,18 +37,18 @@ frame-at-spec =
     (tie.spec
     returns
     (λ c. search needs)
-    returns-2
+    (λ c κs. search needs)
+    (λ c. c .begun-at .ensures)
     (λ c. search needs)
     returns-3
     (λ c. search needs)
     (λ c. search needs)
     returns-4
-    returns-5
     (λ c. search needs)
     (λ c. search needs)
     (λ c κs. search needs)
-    returns-6
+    returns-5
     (λ c. search needs)
     (λ c. search needs)
     (λ c. search needs)
-    returns-7)
+    returns-6)
