@@ -33,11 +33,14 @@ fn length_in(octet: u8) -> usize
     octet as usize
 }
 
-// What stands at a position of s behind which there are fewer octets than a head has: an octet of the mark that is there and wrong makes the record bad, and else it is cut.
-fn begun_at(s: &[u8], from: usize) -> Frame
-    requires { ⌜ (from < length (now s)) × (length (now s) < from + 4) ⌝ }
+// What stands at a position of s behind which there are fewer octets than a head has: nothing, or an octet of the mark that is there and wrong, which makes the record bad, or else a record that is cut.
+fn part_at(s: &[u8], from: usize) -> Frame
+    requires { ⌜ length (now s) < from + 4 ⌝ }
     ensures { λ r. ⌜ r ≡ frameAt (now (s .entry)) from ⌝ }
 {
+    if s.len() <= from {
+        return Frame::Nothing;
+    }
     if s[from] != MARK_FIRST {
         return Frame::Bad;
     }
@@ -55,12 +58,12 @@ fn begun_at(s: &[u8], from: usize) -> Frame
 pub fn frame_at(s: &[u8], at: usize) -> Frame
     ensures { λ r. ⌜ r ≡ frameAt (now (s .entry)) at ⌝ }
 {
-    if s.len() <= at {
-        return Frame::Nothing;
+    if s.len() < HEAD_LENGTH {
+        return part_at(s, at);
     }
-    let left = s.len() - at;
-    if left < HEAD_LENGTH {
-        return begun_at(s, at);
+    let last = s.len() - HEAD_LENGTH;
+    if last < at {
+        return part_at(s, at);
     }
     if s[at] != MARK_FIRST {
         return Frame::Bad;
@@ -69,7 +72,7 @@ pub fn frame_at(s: &[u8], at: usize) -> Frame
         return Frame::Bad;
     }
     let len = length_in(s[at + 3]);
-    if left - HEAD_LENGTH < len {
+    if last - at < len {
         return Frame::Cut;
     }
     let kind = s[at + 2];

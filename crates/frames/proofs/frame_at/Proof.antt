@@ -2,14 +2,9 @@
 use native.Mathlib.Omega.{arith}
 use mathlib.Core.Path.{sym}
 use borrow.Author.Needs.{needs}
-use Rattle.frames.proofs.Answers.{frame-none, frame-first, frame-second, frame-short, frame-whole}
+use Rattle.frames.proofs.Answers.{frame-first, frame-second, frame-short, frame-whole}
 use Rattle.frames.proofs.frame_at.Statement.{statement}
 use Rattle.frames.proofs.frame_at.Tie as tie
-
-returns : tie.Need-returns
-returns c =
-    let a = c .before .before .args in
-    sym (frame-none (a .s .now) (a .at) (omega arith))
 
 returns-3 : tie.Need-returns-3
 returns-3 c =
@@ -35,10 +30,11 @@ pub frame-at-spec : {M : Type 1} → statement M
 frame-at-spec =
     tie.close
     (tie.spec
-    returns
+    (λ c κs. search needs)
+    (λ c. c .part-at .ensures)
     (λ c. search needs)
     (λ c κs. search needs)
-    (λ c. c .begun-at .ensures)
+    (λ c. c .part-at2 .ensures)
     (λ c. search needs)
     returns-3
     (λ c. search needs)
