@@ -1,14 +1,14 @@
 -- One law for each answer of `frame_at`, by the octets that it reads. Assumes nothing.
-use Prim.Native.Nat.{ℕ, _+_, _-_, _≤_, _<_}
+use Prim.Native.Nat.{ℕ, _+_, _*_, _-_, _≤_, _<_}
 use native.Mathlib.Nat.{add-zero, not-suc-le-zero}
 use native.Mathlib.Omega.{arith}
 use mathlib.Core.Path.{_≡_, refl, ap, _∙_, sym}
-use mathlib.Core.Bool.{cond}
+use mathlib.Core.Bool.{Bool, true, false, cond}
 use mathlib.Core.List.{List, [], _∷_}
 use lib.ListN.{length, getD, take, drop, length-drop, drop-of-length-le}
 use lib.Seq.{length-take-le, getD-drop}
-use lib.Dec.{leb}
-use borrow.Author.Tests.{eq-eqb, ne-eqb, le-leb, lt-leb}
+use lib.Dec.{leb, eqb}
+use borrow.Author.Tests.{eq-eqb, ne-eqb, eqb-true, eqb-false, le-leb, lt-leb}
 use Rattle.frames.specs.declared.Frame.the-variants.{Nothing, Bad, Cut, Whole}
 use Rattle.frames.specs.Frames.{bad, cut, whole, front, located, frameAt}
 use Rattle.frames.proofs.Laws.{no-first, no-second}
@@ -62,6 +62,14 @@ module _ (s : List ℕ) (at : ℕ) where
   pub frame-second : at + 1 < length s → (getD s (at + 1) 0 ≡ 0x4F → ⊥) → frameAt s at ≡ Bad
   unfolding frameAt located
   frame-second h n = rw (front-second (drop at s) (simp length-drop (omega arith)) (λ e. n (sym (octet 1) ∙ e)))
+
+  -- a mark that is another number
+  pub frame-mark : at + 1 < length s → (getD s (at + 1) 0 * 256 + getD s at 0 ≡ 0x4FD5 → ⊥) → frameAt s at ≡ Bad
+  frame-mark h n = go (eqb (getD s at 0) 0xD5) refl
+    where
+      go : (t : Bool) → eqb (getD s at 0) 0xD5 ≡ t → frameAt s at ≡ Bad
+      go true e = frame-second h (λ f. n (omega (arith, eqb-true (getD s at 0) 0xD5 e, f)))
+      go false e = frame-first (omega arith) (eqb-false (getD s at 0) 0xD5 e)
 
   pub frame-begun : at < length s → length s < at + 4 → getD s at 0 ≡ 0xD5 → (at + 1 < length s → getD s (at + 1) 0 ≡ 0x4F) → frameAt s at ≡ Cut
   unfolding frameAt located

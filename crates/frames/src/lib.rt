@@ -1,7 +1,7 @@
 // Cutting a run of octets into records: the mark D5 4F, a kind octet, a length octet, and that many octets (document 01, "The bench
 // program"). Only the frame is judged here; which kinds and lengths are good is for those who read the payload.
 ghost use mathlib.Core.Path.{_≡_};
-ghost use Prim.Native.Nat.{_+_, _<_};
+ghost use Prim.Native.Nat.{_+_, _*_, _<_};
 ghost use lib.ListN.{length};
 ghost use Rattle.frames.specs.Frames.{frameAt};
 
@@ -10,6 +10,9 @@ pub const MARK_FIRST: u8 = 0xD5;
 
 // and the second.
 pub const MARK_SECOND: u8 = 0x4F;
+
+// Both as one number, the second octet the high one, as the machine loads two octets at once.
+const MARK: u16 = 0x4FD5;
 
 // How many octets stand before the payload: the mark, the kind and the length.
 pub const HEAD_LENGTH: usize = 4;
@@ -24,6 +27,13 @@ pub enum Frame {
     Cut,
     // A whole record: its kind, the position of its payload, and the payload's length. The next record stands at start + len.
     Whole { kind: u8, start: usize, len: usize },
+}
+
+// The number that two octets make, the first of them the high one.
+fn together(a: u8, b: u8) -> u16
+    ensures { λ r. ⌜ r ≡ a * 256 + b ⌝ }
+{
+    (a as u16) * 256 + (b as u16)
 }
 
 // The length that a length octet says.
@@ -65,10 +75,7 @@ pub fn frame_at(s: &[u8], at: usize) -> Frame
     if last < at {
         return part_at(s, at);
     }
-    if s[at] != MARK_FIRST {
-        return Frame::Bad;
-    }
-    if s[at + 1] != MARK_SECOND {
+    if together(s[at + 1], s[at]) != MARK {
         return Frame::Bad;
     }
     let len = length_in(s[at + 3]);

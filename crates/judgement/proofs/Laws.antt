@@ -9,7 +9,7 @@ use lib.Dec.{leb, eqb}
 use borrow.Author.Tests.{eq-eqb, ne-eqb, eqb-true, le-leb, lt-leb, leb-true}
 use Rattle.lists.proofs.Bools.{cond-by}
 use Rattle.route.specs.Route.{totalOf}
-use Rattle.route.proofs.Laws.{total-least}
+use Rattle.route.proofs.Laws.{total-least, total-most}
 use Rattle.payloads.specs.Payloads.{sizeOf}
 use Rattle.judgement.specs.Judgement.{announcementOf, withdrawalOf, queryOf, firstOf, laterOf, judgedOf}
 use Rattle.judgement.specs.declared.Judged.{Judged}
@@ -94,13 +94,17 @@ module _ (p : List ℕ) where
   unfolding announcementOf
   announcement-short h = rw (lt-leb (totalOf (getD p 20 0)) (length p) (omega (arith, total-least (getD p 20 0))))
 
-  pub announcement-cut : (n : ℕ) → n ≡ totalOf (getD p 20 0) → length p < n → Bad ≡ announcementOf p
+  pub announcement-long : 37 ≤ length p → Announcement ≡ announcementOf p
   unfolding announcementOf
-  announcement-cut n e h = rw (lt-leb (totalOf (getD p 20 0)) (length p) (omega arith))
+  announcement-long h = rw (le-leb (totalOf (getD p 20 0)) (length p) (omega (arith, total-most (getD p 20 0))))
 
-  pub announcement-whole : (n : ℕ) → n ≡ totalOf (getD p 20 0) → n ≤ length p → Announcement ≡ announcementOf p
-  unfolding announcementOf
-  announcement-whole n e h = rw (le-leb (totalOf (getD p 20 0)) (length p) (omega arith))
+  pub announcement-six : length p < 37 → getD p 20 0 ≡ 128 → Bad ≡ announcementOf p
+  unfolding announcementOf totalOf
+  announcement-six h e = rw (e, lt-leb 37 (length p) h)
+
+  pub announcement-four : 25 ≤ length p → (getD p 20 0 ≡ 128 → ⊥) → Announcement ≡ announcementOf p
+  unfolding announcementOf totalOf
+  announcement-four h n = rw (ne-eqb (getD p 20 0) 128 n, le-leb 25 (length p) h)
 
   module _ (v : Bool) (n : ℕ) (e : n ≡ sizeOf v) where
     pub withdrawal-bad : (length p ≡ n → ⊥) → Bad ≡ withdrawalOf v p

@@ -4,6 +4,15 @@ ghost use mathlib.Core.Path.{_≡_};
 ghost use mathlib.Core.Bool.{true, false};
 ghost use Rattle.judgement.specs.Judgement.{announcementOf, withdrawalOf, queryOf, firstOf, laterOf, judgedOf};
 
+// How many octets the route of an IPv4 router has, and none has fewer,
+const LEAST_ROUTE: usize = 25;
+
+// and that of an IPv6 router, and none has more.
+const MOST_ROUTE: usize = 37;
+
+// What octet 20 of a route says of an IPv6 router.
+const IPV6_BITS: u8 = 128;
+
 // What a record is: the text of an identifier (a plate, in document 01), an announcement, a withdrawal, a query, or bad. A withdrawal and a query say whether their addresses
 // are IPv6.
 pub enum Judged {
@@ -18,10 +27,13 @@ pub enum Judged {
 fn announcement(payload: &[u8]) -> Judged
     ensures { λ r. ⌜ r ≡ announcementOf (now (payload .entry)) ⌝ }
 {
-    if payload.len() < 25 {
+    if payload.len() < LEAST_ROUTE {
         return Judged::Bad;
     }
-    if payload.len() < route::total(payload[20]) {
+    if MOST_ROUTE <= payload.len() {
+        return Judged::Announcement;
+    }
+    if payload[20] == IPV6_BITS {
         return Judged::Bad;
     }
     Judged::Announcement
