@@ -3,8 +3,8 @@
 // Every table lies in such rows: there is one search here, and one insertion and one removal in `gaps`.
 ghost use mathlib.Core.Path.{_≡_};
 ghost use mathlib.Core.List.{map};
-ghost use Prim.Native.Nat.{_+_, _-_, _*_, _≤_, _<_};
-ghost use lib.ListN.{length, take, drop};
+ghost use Prim.Native.Nat.{_+_, _-_, _*_, _/_, _%_, _≤_, _<_};
+ghost use lib.ListN.{length, getD, take, drop};
 ghost use Rattle.keyed.specs.Keyed.{Rising};
 ghost use Rattle.rows.specs.Rows.{rowsIn, rowKey, keyOrder, foundIn, middle, Within, looked, looksBetween, firstLook, looksFor};
 
@@ -27,13 +27,44 @@ pub struct Lookup {
     pub looks: u32,
 }
 
-// The row that starts at word `at`, against a key of as many words: the first two words that differ decide.
+// How many values a word has.
+const WORD: u64 = 4294967296;
+
+// Two words from `at` on as one number, the second high, as the machine loads them at once.
+fn pair_at(s: &[u32], at: usize) -> u64
+    requires { ⌜ at + 2 ≤ length (now s) ⌝ }
+    ensures { λ r. ⌜ r ≡ getD (now (s .entry)) at 0 + getD (now (s .entry)) (at + 1) 0 * 4294967296 ⌝ }
+{
+    s[at] as u64 + (s[at + 1] as u64) * WORD
+}
+
+// The same two words as one number, the first high.
+fn turned(x: u64) -> u64
+    ensures { λ r. ⌜ r ≡ x % 4294967296 * 4294967296 + x / 4294967296 ⌝ }
+{
+    x % WORD * WORD + x / WORD
+}
+
+// The row that starts at word `at`, against a key of as many words: the first words that differ decide. Words are compared two at a time, and the last of an odd
+// number by itself.
 pub fn compare(s: &[u32], at: usize, key: &[u32]) -> Order
     requires { ⌜ at + length (now key) ≤ length (now s) ⌝ }
     ensures { λ r. ⌜ r ≡ keyOrder (rowKey (take (length (now (key .entry))) (drop at (now (s .entry))))) (rowKey (now (key .entry))) ⌝ }
 {
+    let k = key.len();
     let mut i = 0;
-    while i < key.len() {
+    while i + 1 < k {
+        let x = pair_at(s, at + i);
+        let y = pair_at(key, i);
+        if x != y {
+            if turned(x) < turned(y) {
+                return Order::Less;
+            }
+            return Order::Greater;
+        }
+        i += 2;
+    }
+    if i < k {
         let x = s[at + i];
         let y = key[i];
         if x != y {
@@ -42,7 +73,6 @@ pub fn compare(s: &[u32], at: usize, key: &[u32]) -> Order
             }
             return Order::Greater;
         }
-        i += 1;
     }
     Order::Equal
 }
