@@ -1,17 +1,18 @@
 -- The set of the routers that are ready, router by router; and that the list of the ready routers names just these. Assumes nothing.
-use Prim.Native.Nat.{ℕ, _+_, _*_, _^_, _≤_, _<_}
+use Prim.Native.Nat.{ℕ, _+_, _≤_, _<_}
 use native.Mathlib.Numerals.{add-one}
 use native.Mathlib.Omega.{arith}
-use mathlib.Core.Path.{_≡_, refl, ap, ap₂, _∙_, sym}
+use mathlib.Core.Path.{_≡_, refl, ap, ap₂, _∙_, sym, subst}
 use mathlib.Core.Bool.{Bool, true, false, cond, _&&_, _||_, and-true, and-false, or-true}
 use mathlib.Core.List.{List, [], _∷_, _++_, map, map-append}
-use lib.ListN.{length, getD, take, drop, length-map}
+use lib.ListN.{length, getD, take, length-map}
 use lib.Seq.{length-take-le, take-suc}
 use lib.Dec.{eqb}
 use borrow.Author.Tests.{eq-eqb, eqb-true}
 use Rattle.lists.specs.Lists.{Every}
 use Rattle.lists.proofs.Bools.{true-false}
-use Rattle.address.specs.Address.{IsAddress, ipv4, ipv6, familyOf, addressWords, addressKey}
+use Rattle.lists.proofs.Lists.{every-in}
+use Rattle.address.specs.Address.{IsAddress, addressKey}
 use Rattle.address.proofs.Laws.{length-address, key-row}
 use Rattle.rows.specs.Rows.{rowKey}
 use Rattle.layout.specs.Table.{Entry, noEntry, AddressRight}
@@ -21,11 +22,9 @@ use Rattle.ready.specs.Ready.{onList, candidateSet}
 use Rattle.ready.proofs.Laws.{set-ready}
 use Rattle.circuit_ready.specs.Routers.{readyFor, readyRouters}
 
--- the row of an address, from its family and its words
-pub row-words : (f : ℕ) (w r : List ℕ) → IsAddress r → f ≡ familyOf r → w ≡ addressWords r → f ∷ getD w 0 0 ∷ getD w 1 0 ∷ getD w 2 0 ∷ getD w 3 0 ∷ [] ≡ r
-unfolding familyOf addressWords
-row-words f w r (ipv4 a e) p q = rw (p, q, e)
-row-words f w r (ipv6 a b c d e) p q = rw (p, q, e)
+-- what an entry has as its address is one
+pub address-right : (es : List Entry) → Every AddressRight es → (i : ℕ) (a : List ℕ) → a ≡ getD es i noEntry .address → i < length es → IsAddress a
+address-right es right i a e h = subst IsAddress (sym e) (every-in AddressRight es i noEntry right h .0)
 
 -- ONE ROUTER MORE
 module _ (c : List (List ℕ)) (tag : ℕ) where

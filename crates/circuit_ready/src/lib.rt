@@ -3,19 +3,25 @@ use circuit_layout::PER_INSTANCE;
 use circuit_layout::PER_SEGMENT;
 use circuit_layout::WIDTH;
 use rows::Found;
+use rows::Order;
 ghost use mathlib.Core.Path.{_≡_};
+ghost use mathlib.Core.Bool.{_&&_};
 ghost use mathlib.Core.List.{_∷_, map};
-ghost use Prim.Native.Nat.{_+_, _<_};
-ghost use lib.ListN.{length, getD};
+ghost use Prim.Native.Nat.{_+_, _≤_};
+ghost use lib.ListN.{length, take, drop};
+ghost use lib.Dec.{eqb};
 ghost use Rattle.lists.specs.Lists.{bit};
-ghost use Rattle.keyed.specs.Keyed.{has, rank};
+ghost use Rattle.keyed.specs.Keyed.{rank};
 ghost use Rattle.rows.specs.Rows.{rowKey};
-ghost use Rattle.layout.specs.Table.{noEntry};
+ghost use Rattle.address.specs.Address.{IsAddress};
 ghost use Rattle.layout.specs.Words.{tableIn, Valid};
-ghost use Rattle.circuit_layout.specs.Circuits.{circuitsIn, ValidCircuits};
+ghost use Rattle.circuit_layout.specs.Circuits.{perSegment, perInstance, circuitsIn, ValidCircuits};
 ghost use Rattle.places.specs.Places.{setOf};
 ghost use Rattle.ready.specs.Ready.{candidateSet};
-ghost use Rattle.circuit_ready.specs.Routers.{readyFor, readyRouters};
+ghost use Rattle.circuit_ready.specs.Routers.{stands, standsAt, readyFor, readyRouters};
+
+// How many words of a route's row, its kind and its tag, stand before its address.
+const HEAD: usize = 2;
 
 // Whether a route stands, and where the next look starts: after it, or at the place where it would stand.
 struct Seen {
@@ -23,23 +29,63 @@ struct Seen {
     next: usize,
 }
 
-// The row of an A-D route of the router at a place of the route table.
-fn route_row(t: &[u32], at: usize, kind: u32, tag: u32) -> [u32; WIDTH]
-    requires { ⌜ Valid (now t) × (at < length (tableIn (now t) .entries)) ⌝ }
-    ensures { λ r. ⌜ r ≡ kind ∷ tag ∷ getD (tableIn (now (t .entry)) .entries) at noEntry .address ⌝ }
+// Whether the words from `start` on are the key.
+fn same_at(c: &[u32], start: usize, key: &[u32]) -> bool
+    requires { ⌜ start + length (now key) ≤ length (now c) ⌝ }
+    ensures { λ r. ⌜ r ≡ eqb (rowKey (take (length (now (key .entry))) (drop start (now (c .entry))))) (rowKey (now (key .entry))) ⌝ }
 {
-    let family = layout::family_at(t, at);
-    let w = layout::words_at(t, at);
-    [kind, tag, family as u32, w[0], w[1], w[2], w[3]]
+    let order = rows::compare(c, start, key);
+    match order {
+        Order::Less => false,
+        Order::Equal => true,
+        Order::Greater => false,
+    }
 }
 
-// Looks for a route, at the place `first` before all others.
-fn look_for(circuits: &[u32], first: usize, row: &[u32]) -> Seen
-    requires { ⌜ ValidCircuits (now circuits) × (length (now row) ≡ 7) ⌝ }
-    ensures stands { λ r. ⌜ r .stands ≡ has rowKey (rowKey (now (row .entry))) (circuitsIn (now (circuits .entry))) ⌝ }
-    ensures next { λ r. ⌜ r .next ≡ rank rowKey (rowKey (now (row .entry))) (circuitsIn (now (circuits .entry))) + bit (r .stands) ⌝ }
+// Whether the route of a kind and tag of the router with this address, as a row of words, stands at a place.
+fn is_at(circuits: &[u32], place: usize, kind: u32, tag: u32, address: &[u32]) -> bool
+    requires { ⌜ ValidCircuits (now circuits) × IsAddress (now address) ⌝ }
+    ensures { λ r. ⌜ r ≡ standsAt (circuitsIn (now (circuits .entry))) place (kind ∷ tag ∷ now (address .entry)) ⌝ }
 {
-    let found = circuit_layout::look(circuits, first, row);
+    if circuit_layout::count(circuits) <= place {
+        return false;
+    }
+    let start = place * WIDTH;
+    let head = [kind, tag];
+    if !same_at(circuits, start, &head) {
+        return false;
+    }
+    let behind = start + HEAD;
+    same_at(circuits, behind, address)
+}
+
+// Whether both routes of a router stand at two places.
+fn both_at(circuits: &[u32], segment: usize, instance: usize, tag: u32, address: &[u32]) -> bool
+    requires { ⌜ ValidCircuits (now circuits) × IsAddress (now address) ⌝ }
+    ensures { λ r. ⌜ r ≡ (standsAt (circuitsIn (now (circuits .entry))) segment (perSegment (now (address .entry))) && standsAt (circuitsIn (now (circuits .entry))) instance (perInstance tag (now (address .entry)))) ⌝ }
+{
+    if !is_at(circuits, segment, PER_SEGMENT, 0, address) {
+        return false;
+    }
+    is_at(circuits, instance, PER_INSTANCE, tag, address)
+}
+
+// Looks for a route of the router with this address, at the place `first` before all others.
+fn look_for(circuits: &[u32], first: usize, kind: u32, tag: u32, address: &[u32]) -> Seen
+    requires { ⌜ ValidCircuits (now circuits) × IsAddress (now address) ⌝ }
+    ensures stands { λ r. ⌜ r .stands ≡ stands (circuitsIn (now (circuits .entry))) (kind ∷ tag ∷ now (address .entry)) ⌝ }
+    ensures next { λ r. ⌜ r .next ≡ rank rowKey (rowKey (kind ∷ tag ∷ now (address .entry))) (circuitsIn (now (circuits .entry))) + bit (r .stands) ⌝ }
+{
+    let row = [
+        kind,
+        tag,
+        address[0],
+        address[1],
+        address[2],
+        address[3],
+        address[4],
+    ];
+    let found = circuit_layout::look(circuits, first, &row);
     match found {
         Found::At(at) => Seen {
             stands: true,
@@ -53,7 +99,8 @@ fn look_for(circuits: &[u32], first: usize, row: &[u32]) -> Seen
 }
 
 // The set of the places whose router is ready for a tag. Routers are asked for in rising address order, as the routes of each kind stand: the first look for each
-// of a router's two routes is at the place after the one where the last router's stood, or would stand. Of the first router it is at the first route.
+// of a router's two routes is at the place after the one where the last router's stood, or would stand. Of the first router it is at the first route. Where both
+// stand there, as those of every router after the first do where all are ready, equality alone decides; else both are searched for.
 fn circuit_set(t: &[u32], circuits: &[u32], tag: u32) -> u64
     requires { ⌜ Valid (now t) × ValidCircuits (now circuits) ⌝ }
     ensures { λ r. ⌜ r ≡ setOf (map (λ e. readyFor (circuitsIn (now (circuits .entry))) tag (e .address)) (tableIn (now (t .entry)) .entries)) ⌝ }
@@ -64,14 +111,19 @@ fn circuit_set(t: &[u32], circuits: &[u32], tag: u32) -> u64
     let mut instance = 0;
     let mut at = 0;
     while at < n {
-        let first = route_row(t, at, PER_SEGMENT, 0);
-        let per_segment = look_for(circuits, segment, &first);
-        let second = route_row(t, at, PER_INSTANCE, tag);
-        let per_instance = look_for(circuits, instance, &second);
-        segment = per_segment.next;
-        instance = per_instance.next;
-        if per_segment.stands & per_instance.stands {
+        let address = layout::address_at(t, at);
+        if both_at(circuits, segment, instance, tag, address) {
             set = places::with(set, at);
+            segment += 1;
+            instance += 1;
+        } else {
+            let per_segment = look_for(circuits, segment, PER_SEGMENT, 0, address);
+            let per_instance = look_for(circuits, instance, PER_INSTANCE, tag, address);
+            segment = per_segment.next;
+            instance = per_instance.next;
+            if per_segment.stands & per_instance.stands {
+                set = places::with(set, at);
+            }
         }
         at += 1;
     }

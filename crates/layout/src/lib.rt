@@ -34,6 +34,16 @@ pub fn count(t: &[u32]) -> usize
     t[COUNT] as usize
 }
 
+// The row of the address at a place: a part of the table's words.
+pub fn address_at(t: &[u32], at: usize) -> &[u32]
+    requires { ⌜ Valid (now t) × (at < length (tableIn (now t) .entries)) ⌝ }
+    ensures { λ r. ⌜ now r ≡ getD (tableIn (now (t .entry)) .entries) at noEntry .address ⌝ }
+{
+    let start = at * address::WIDTH;
+    let end = start + address::WIDTH;
+    &t[start..end]
+}
+
 // The family of the address at a place, as a number.
 pub fn family_at(t: &[u32], at: usize) -> u8
     requires { ⌜ Valid (now t) × (at < length (tableIn (now t) .entries)) ⌝ }

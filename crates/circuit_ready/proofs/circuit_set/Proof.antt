@@ -1,21 +1,21 @@
 -- `circuit_set` meets its contract: at every turn, the set is that of the ready routers asked for so far. Assumes nothing.
-use Prim.Native.Nat.{ℕ, _≤_, _-_, _<_}
+use Prim.Native.Nat.{ℕ, _+_, _≤_, _-_, _<_}
 use native.Mathlib.Omega.{arith}
-use mathlib.Core.Path.{_≡_, ap, ap₂, _∙_, sym}
-use mathlib.Core.Bool.{Bool, _&&_}
+use mathlib.Core.Path.{_≡_, refl, ap, _∙_}
+use mathlib.Core.Bool.{Bool, true, false}
 use mathlib.Core.List.{List}
 use mathlib.Core.Logic.{⊎-elim}
 use borrow.Author.Needs.{needs}
 use lib.ListN.{length, getD, take}
 use lib.Seq.{take-all}
-use Rattle.keyed.specs.Keyed.{has}
-use Rattle.rows.specs.Rows.{rowKey}
+use Rattle.address.specs.Address.{IsAddress}
 use Rattle.layout.specs.Table.{Entry, noEntry}
 use Rattle.layout.specs.Words.{tableIn}
 use Rattle.circuit_layout.specs.Circuits.{circuitsIn}
-use Rattle.places.specs.Places.{setOf}
+use Rattle.places.specs.Places.{setOf, withPlace}
 use Rattle.circuit_ready.specs.Routers.{readyFor}
-use Rattle.circuit_ready.proofs.Laws.{flags, ready-none, ready-more, ready-less}
+use Rattle.circuit_ready.proofs.Stands.{ready-stands, ready-at}
+use Rattle.circuit_ready.proofs.Laws.{address-right, flags, ready-none, ready-more, ready-less}
 use Rattle.circuit_ready.proofs.circuit_set.Statement.{statement}
 use Rattle.circuit_ready.proofs.circuit_set.Tie as tie
 
@@ -28,16 +28,10 @@ abbrev μ-loop : tie.MeasureT-loop
 loop-holds : tie.Need-loop-holds Inv-loop μ-loop
 loop-holds c = let a = c .before .before .before .args in (omega arith, ready-none (circuitsIn (a .circuits .now)) (a .tag))
 
--- one turn: the router's two routes were looked for
-module _ (k : tie.After-look-for2 Inv-loop μ-loop) where
-  abbrev asked : tie.After-look-for Inv-loop μ-loop
-  asked = k .before .before .before
-
-  abbrev turn : tie.In-loop Inv-loop μ-loop
-  turn = asked .before .before .before
-
+-- one turn: the router's address is read
+module _ (k : tie.After-address-at Inv-loop μ-loop) where
   abbrev top : tie.At-loop Inv-loop μ-loop
-  top = turn .before
+  top = k .before .before
 
   abbrev from : tie.Start Inv-loop μ-loop
   from = top .before .before .before .before
@@ -51,22 +45,42 @@ module _ (k : tie.After-look-for2 Inv-loop μ-loop) where
   abbrev at : ℕ
   at = top .loop .at
 
-  ready : (asked .look-for .result .stands && k .look-for2 .result .stands) ≡ readyFor routes (from .args .tag) (getD es at noEntry .address)
-  unfolding readyFor
-  ready =
-      ap₂ (λ (x y : Bool). x && y)
-      (asked .look-for .ensures .0 ∙ ap (λ (r : List ℕ). has rowKey (rowKey r) routes) (asked .before .before .route-row .ensures))
-      (k .look-for2 .ensures .0 ∙ ap (λ (r : List ℕ). has rowKey (rowKey r) routes) (k .before .before .route-row2 .ensures))
+  abbrev address : List ℕ
+  address = k .address-at .result .now
+
+  inside : at < length es
+  inside = omega (arith, top .before .count .ensures, k .before .loop-test .taken)
+
+  is-address : IsAddress address
+  is-address = address-right es (from .pre .0 .sound .addresses) _ address (k .address-at .ensures) (omega (arith, inside))
+
+  -- what it makes of the set, by whether the router is ready
+  module _ (b : Bool) (ready : b ≡ readyFor routes (from .args .tag) address) where
+    known : b ≡ readyFor routes (from .args .tag) (getD es at noEntry .address)
+    known = ready ∙ ap (readyFor routes (from .args .tag)) (k .address-at .ensures)
+
+    more : b ≡ true → withPlace (top .loop .set) at ≡ setOf (flags routes (from .args .tag) (take (at + 1) es))
+    more = ready-more routes (from .args .tag) es at inside (from .pre .0 .sound .short) (top .loop .set) (top .loop .inv .1) b known
+
+    less : b ≡ false → top .loop .set ≡ setOf (flags routes (from .args .tag) (take (at + 1) es))
+    less = ready-less routes (from .args .tag) es at inside (from .pre .0 .sound .short) (top .loop .set) (top .loop .inv .1) b known
+
+-- both its routes stand where they are looked for first
+both : (c : tie.Then1 Inv-loop μ-loop) → let k = c .before .before in
+    (top k .loop .segment < length (routes k)) × (top k .loop .instance < length (routes k)) × (true ≡ readyFor (routes k) (from k .args .tag) (address k))
+both c =
+    let k = c .before .before in
+    ready-at (from k .args .circuits .now) (from k .pre .1) (from k .args .tag) (top k .loop .segment) (top k .loop .instance) (address k) (c .before .both-at .ensures) (c .if1 .taken)
 
 loop-again : tie.Need-loop-again Inv-loop μ-loop
 loop-again c =
-    let k = c .before .before .before in
-    let start = from k in
-    let h : at k < length (es k) = omega (arith, top k .before .count .ensures) in (
-      omega arith,
+    let k = c .before .before in (
+      omega (arith, inside k),
       ⊎-elim
-          (λ w. w .2 ∙ w .1 .ensures ∙ ready-more (routes k) (start .args .tag) (es k) (at k) h (start .pre .0 .sound .short) (top k .loop .set) (top k .loop .inv .1) _ (ready k) (w .0 .taken))
-          (λ w. w .1 ∙ ready-less (routes k) (start .args .tag) (es k) (at k) h (start .pre .0 .sound .short) (top k .loop .set) (top k .loop .inv .1) _ (ready k) (w .0 .left))
+          (λ w. w .2 ∙ w .1 .ensures ∙ more k true (both (record { before = c .before; if1 = w .0 }) .2) refl)
+          (⊎-elim
+          (λ w. w .7 ∙ w .6 .ensures ∙ more k _ (ready-stands (routes k) (from k .args .tag) (address k) (w .1 .ensures .0) (w .2 .ensures .0)) (w .5 .taken))
+          (λ w. w .6 ∙ less k _ (ready-stands (routes k) (from k .args .tag) (address k) (w .1 .ensures .0) (w .2 .ensures .0)) (w .5 .left)))
           (c .if1 .came),
     )
 
@@ -87,15 +101,14 @@ circuit-set-spec =
     (λ c κs. search needs)
     loop-holds
     (λ c κs. (c .before .before .before .before .before .pre .0, omega (arith, c .before .before .count .ensures)))
-    (λ c. search needs)
-    (λ c κs. search needs)
-    (λ c κs. (c .before .before .before .before .before .before .before .before .pre .0, omega (arith, c .before .before .before .before .before .count .ensures)))
-    (λ c. search needs)
-    (λ c κs. search needs)
-    (λ c κs.
-    let counted = c .before .before .before .before .before .before .before .before .before .before .before in
-    omega (arith, counted .count .ensures, counted .before .before .before .pre .0 .sound .short))
-    (λ c. omega (arith, c .before .before .before .before .before .before .before .before .before .before .before .count .ensures))
-    (λ c. omega (arith, c .before .before .before .before .before .before .before .before .before .before .before .count .ensures))
+    (λ c κs. (from c .pre .1, is-address c))
+    (λ c κs. let k = c .before .before in omega (arith, inside k, from k .pre .0 .sound .short))
+    (λ c. let k = c .before .before .before in omega (arith, both (c .before) .0, from k .pre .1 .sound .short))
+    (λ c. let k = c .before .before .before in omega (arith, both (c .before) .1, from k .pre .1 .sound .short))
+    (λ c κs. let k = c .before .before in (from k .pre .1, is-address k))
+    (λ c κs. let k = c .before .before .before in (from k .pre .1, is-address k))
+    (λ c κs. let k = c .before .before .before .before .before .before .before in omega (arith, inside k, from k .pre .0 .sound .short))
+    (λ c. let k = c .before .before in omega (arith, inside k, from k .pre .0 .sound .short))
+    (λ c. let k = c .before .before in omega (arith, inside k))
     loop-again
     returns)
