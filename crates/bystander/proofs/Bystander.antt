@@ -83,4 +83,4 @@ pub undisturbed-in : (b : List ℕ) → ValidSegment b → Words b → (a : List
     → Undisturbed (segmentIn b) a (record { table = withdrawn (segmentIn b .table) a .table; settings = segmentIn b .settings })
 unfolding segmentIn
 undisturbed-in b h o a g p =
-    undisturbed (segmentIn b) a (h .table .sound) (h .settings .sound) (known-in (take 395 b) (h .table) (words-part 395 0 b o) a g p)
+    undisturbed (segmentIn b) a (h .table .sound) (h .settings .sound) (known-in (take 388 b) (h .table) (words-part 388 0 b o) a g p)

@@ -125,7 +125,7 @@ module _ (b : List ℕ) (h : Loadable b) (c : Candidate) where
           let l : spliced es i (entryIn (addressRow a) (w ∷ [])) ≡ insert entryKey e es =
           ap (spliced es i) entry ∙ sym (insert-missing entryKey (addressKey (addressRow a)) es e noEntry i (ap addressKey (sym (o .1))) f) in
           let words : x ≡ wordsOf grown = q ∙ ap (λ (m : List Entry). wordsOf (tableOf (tableIn b .esi) m)) l in
-          let table : tableIn x ≡ grown = ap tableIn words ∙ table-in grown (well .short) (well .addresses) narrow in (
+          let table : tableIn x ≡ grown = ap tableIn words ∙ table-in grown well narrow (h .0 .octets) in (
             (subst Valid (sym words) (valid-of grown well narrow (h .0 .octets)), ap (λ (t : Table). reserved (t .esi)) table ∙ h .1),
             (rw (o .0, new), ap (λ (t : Table). t .entries) table),
           )

@@ -16,7 +16,7 @@ module _ (b : List ℕ) (v : ValidSegment b) (n : ℕ) (y : List ℕ) (w : Valid
   before = segmentIn b
 
   abbrev anew : List ℕ
-  anew = take 395 b ++ (y ++ drop (length b - 395) (drop 395 b))
+  anew = take 388 b ++ (y ++ drop (length b - 388) (drop 388 b))
 
   abbrev pub Set : Call → SettingsChange → Type 0
   Set c k = SetTold k (before .table) n anew × ValidSegment anew × Changes before c n (segmentIn anew) × Follows before c (changeReply n) (segmentIn anew)
@@ -29,13 +29,13 @@ module _ (b : List ℕ) (v : ValidSegment b) (n : ℕ) (y : List ℕ) (w : Valid
       let t = lands before c n (segmentIn anew) _ (e .0) h in
       ((o .0, e .0 ∙ ap (λ (s : Settings). record { table = before .table; settings = s }) (o .1)), e .1, t .0, t .1)
 
-  pub numbers-told : (x z : ℕ) → SettingsTold (numbersSet (settingsIn (take (length b - 395) (drop 395 b))) x z) n y → Set (setNumbers x z) (numbersSet (before .settings) x z)
+  pub numbers-told : (x z : ℕ) → SettingsTold (numbersSet (settingsIn (take (length b - 388) (drop 388 b))) x z) n y → Set (setNumbers x z) (numbersSet (before .settings) x z)
   unfolding segmentIn
   numbers-told x z h =
       let o : SettingsTold (numbersSet (before .settings) x z) n y = rw (settings-part b v) at h in
       set-told (setNumbers x z) (numbersSet (before .settings) x z) (numbers-changes before x z n y o) o
 
-  pub ranges-told : (run : List ℕ) → SettingsTold (rangesGiven (settingsIn (take (length b - 395) (drop 395 b))) run) n y → Set (setRanges run) (rangesGiven (before .settings) run)
+  pub ranges-told : (run : List ℕ) → SettingsTold (rangesGiven (settingsIn (take (length b - 388) (drop 388 b))) run) n y → Set (setRanges run) (rangesGiven (before .settings) run)
   unfolding segmentIn
   ranges-told run h =
       let o : SettingsTold (rangesGiven (before .settings) run) n y = rw (settings-part b v) at h in

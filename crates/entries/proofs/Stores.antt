@@ -15,7 +15,7 @@ use Rattle.keyed.proofs.Keyed as keyed
 use Rattle.rows.specs.Rows.{column, inserted, removed}
 use Rattle.rows.proofs.Columns.{Wide, length-column, column-inserted, column-removed, column-set}
 use Rattle.layout.specs.Table.{Entry, noEntry, tableOf}
-use Rattle.layout.specs.Words.{kindOf, standingOf, attributesOf, addressColumn, attributeColumn, entryIn, wordsOf}
+use Rattle.layout.specs.Words.{kindOf, standingOf, attributesOf, addressColumn, attributeColumn, entryIn, identifierWords, wordsOf}
 use Rattle.layout.proofs.Words.{wide-attributes}
 
 -- A PART that goes on to the end
@@ -53,7 +53,7 @@ module _ (b i : List ℕ) (es : List Entry) (short : length es ≤ 64) (wide : W
   wordOf e = attributesOf e ∷ []
 
   abbrev tail : ℕ → List ℕ
-  tail n = n ∷ i
+  tail n = n ∷ identifierWords i
 
   -- the two columns and what follows them
   abbrev Parts : List ℕ → List Entry → List Entry → ℕ → Type 0

@@ -4,20 +4,21 @@ use native.Mathlib.Omega.{arith}
 use mathlib.Core.Path.{_≡_, refl, ap, ap₂, _∙_, sym}
 use mathlib.Core.List.{List, [], _∷_, _++_}
 use mathlib.Core.Logic.{⊎-elim}
-use lib.ListN.{length, getD, drop, length-append, length-map, length-replicate}
-use lib.Seq.{drop-at, drop-drop, getD-take, getD-drop}
+use lib.ListN.{length, getD, take, drop, length-append, length-drop, length-map, length-replicate, take-append-drop}
+use lib.Seq.{drop-at, drop-drop, getD-take, getD-drop, take-all}
 use Rattle.lists.specs.Lists.{Every}
 use Rattle.lists.proofs.Bools.{bit-less, bit-halves}
 use Rattle.lists.proofs.Lists.{every-at, getD-map-in}
 use Rattle.address.proofs.Laws.{length-address, key-row}
 use Rattle.esi.proofs.Laws.{length-not-reserved}
+use Rattle.octet_words.proofs.Laws.{low-part}
 use Rattle.keyed.specs.Keyed.{Rising}
 use Rattle.keyed.proofs.Keyed as keyed
 use Rattle.rows.specs.Rows.{rowsIn, column, rowKey}
 use Rattle.rows.proofs.Rows.{rowAt, rows-at}
 use Rattle.rows.proofs.Columns.{Wide, length-column, rows-column}
 use Rattle.layout.specs.Table.{Entry, entryKey, noEntry, AddressRight, Table, WellFormed}
-use Rattle.layout.specs.Words.{kindOf, standingOf, attributesOf, addressColumn, attributeColumn, entryIn, entriesIn, wordsOf, tableIn, Octets, Valid}
+use Rattle.layout.specs.Words.{kindOf, standingOf, attributesOf, addressColumn, attributeColumn, entryIn, entriesIn, identifierWords, identifierIn, wordsOf, tableIn, Octets, Valid}
 
 -- AN ENTRY whose preference has 16 bits
 abbrev pub Narrow : Entry → Type 0
@@ -56,6 +57,14 @@ entries-narrow [] ws = tt
 entries-narrow (r ∷ rs) [] = tt
 entries-narrow (r ∷ rs) (w ∷ ws) = (omega arith, entries-narrow rs ws)
 
+-- THE IDENTIFIER: ten octets as three words, and back
+pub identifier-back : (i : List ℕ) → length i ≡ 10 → Octets i → identifierIn (identifierWords i) ≡ i
+unfolding identifierIn identifierWords
+identifier-back i n o =
+    rw (low-part i 0 4 o (omega arith), low-part i 4 4 o (omega arith), low-part i 8 2 o (omega arith))
+    (ap (λ (s : List ℕ). take 4 i ++ s) (ap (λ (s : List ℕ). take 4 (drop 4 i) ++ s) (take-all 2 (drop 8 i) (rw length-drop (omega arith)) ∙ sym (drop-drop 4 4 i)) ∙ take-append-drop 4 (drop 4 i))
+    ∙ take-append-drop 4 i)
+
 -- THE COLUMNS
 -- a word of a row
 row-word : (k : ℕ) (b : List ℕ) (i j : ℕ) (r : List ℕ) → j < k → rowAt k b i ≡ r → getD b (i * k + j) 0 ≡ getD r j 0
@@ -89,48 +98,47 @@ module _ (t : Table) (n : length (t .entries) ≤ 64) (w : Every AddressRight (t
   length-attributes : length attributes ≡ 64
   length-attributes = length-column 1 64 (attributeColumn (t .entries)) (wide-attributes (t .entries)) (omega (arith, length-map (t .entries) (λ (e : Entry). attributesOf e ∷ [])))
 
-  pub drop-addresses : drop 320 (wordsOf t) ≡ attributes ++ (length (t .entries) ∷ t .esi)
+  pub drop-addresses : drop 320 (wordsOf t) ≡ attributes ++ (length (t .entries) ∷ identifierWords (t .esi))
   unfolding wordsOf
   drop-addresses = drop-at addresses _ 320 length-addresses
 
-  drop-attributes : drop 384 (wordsOf t) ≡ length (t .entries) ∷ t .esi
+  drop-attributes : drop 384 (wordsOf t) ≡ length (t .entries) ∷ identifierWords (t .esi)
   drop-attributes = sym (drop-drop 64 320 (wordsOf t)) ∙ ap (drop 64) drop-addresses ∙ drop-at attributes _ 64 length-attributes
 
   count-at : getD (wordsOf t) 384 0 ≡ length (t .entries)
   count-at = sym (getD-drop 384 (wordsOf t) 0 0) ∙ ap (λ (l : List ℕ). getD l 0 0) drop-attributes
 
-  esi-at : drop 385 (wordsOf t) ≡ t .esi
+  esi-at : drop 385 (wordsOf t) ≡ identifierWords (t .esi)
   esi-at = sym (drop-drop 1 384 (wordsOf t)) ∙ ap (drop 1) drop-attributes
 
-  length-words : length (wordsOf t) ≡ 385 + length (t .esi)
-  unfolding wordsOf
-  length-words = omega (arith, length-append addresses (attributes ++ (length (t .entries) ∷ t .esi)), length-append attributes (length (t .entries) ∷ t .esi), length-addresses, length-attributes)
+  length-words : length (wordsOf t) ≡ 388
+  unfolding wordsOf identifierWords
+  length-words = omega (arith, length-append addresses (attributes ++ (length (t .entries) ∷ identifierWords (t .esi))), length-append attributes (length (t .entries) ∷ identifierWords (t .esi)), length-addresses, length-attributes)
 
   address-rows : rowsIn 5 (length (t .entries)) (wordsOf t) ≡ addressColumn (t .entries)
   unfolding wordsOf
   address-rows =
       ap (λ (m : ℕ). rowsIn 5 m (wordsOf t)) (sym (length-map (t .entries) (λ (e : Entry). e .address)))
-      ∙ rows-column 5 64 (addressColumn (t .entries)) (attributes ++ (length (t .entries) ∷ t .esi)) (wide-addresses (t .entries) w)
+      ∙ rows-column 5 64 (addressColumn (t .entries)) (attributes ++ (length (t .entries) ∷ identifierWords (t .esi))) (wide-addresses (t .entries) w)
 
   attribute-rows : rowsIn 1 (length (t .entries)) (drop 320 (wordsOf t)) ≡ attributeColumn (t .entries)
   attribute-rows =
       ap₂ (λ (m : ℕ) (s : List ℕ). rowsIn 1 m s) (sym (length-map (t .entries) (λ (e : Entry). attributesOf e ∷ []))) drop-addresses
-      ∙ rows-column 1 64 (attributeColumn (t .entries)) (length (t .entries) ∷ t .esi) (wide-attributes (t .entries))
-
-  pub table-in : Every Narrow (t .entries) → tableIn (wordsOf t) ≡ t
-  unfolding tableIn
-  table-in h = rw (esi-at, count-at, address-rows, attribute-rows, entries-back (t .entries) h)
-
-module _ (t : Table) (w : WellFormed t) (h : Every Narrow (t .entries)) where
-  pub valid-of : Octets (t .esi) → Valid (wordsOf t)
-  valid-of o = record {
-    sound = rw (table-in t (w .short) (w .addresses) h) w;
-    whole = ap wordsOf (sym (table-in t (w .short) (w .addresses) h));
-    octets = rw (table-in t (w .short) (w .addresses) h) o;
-  }
+      ∙ rows-column 1 64 (attributeColumn (t .entries)) (length (t .entries) ∷ identifierWords (t .esi)) (wide-attributes (t .entries))
 
 pub length-esi : (t : Table) → WellFormed t → length (t .esi) ≡ 10
 length-esi t w = ⊎-elim (λ h. length-not-reserved (t .esi) h) (λ h. ap length (h .0) ∙ length-replicate {A = ℕ} 10 0) (w .owner)
+
+module _ (t : Table) (w : WellFormed t) (h : Every Narrow (t .entries)) (o : Octets (t .esi)) where
+  pub table-in : tableIn (wordsOf t) ≡ t
+  unfolding tableIn
+  table-in =
+      let n = w .short in
+      let a = w .addresses in
+      rw (esi-at t n a, identifier-back (t .esi) (length-esi t w) o, count-at t n a, address-rows t n a, attribute-rows t n a, entries-back (t .entries) h)
+
+  pub valid-of : Valid (wordsOf t)
+  valid-of = record { sound = rw table-in w; whole = ap wordsOf (sym table-in); octets = rw table-in o }
 
 -- WORDS THAT ARE A TABLE'S
 module _ (b : List ℕ) (h : Valid b) where
@@ -153,8 +161,8 @@ module _ (b : List ℕ) (h : Valid b) where
   pub narrow-entry : (i : ℕ) → Narrow (getD es i noEntry)
   narrow-entry i = every-at Narrow es i noEntry (omega arith) narrow-entries
 
-  pub length-valid : length b ≡ 395
-  length-valid = ap length (h .whole) ∙ omega (arith, length-words table short right, length-esi table (h .sound))
+  pub length-valid : length b ≡ 388
+  length-valid = ap length (h .whole) ∙ length-words table short right
 
   pub count-word : getD b 384 0 ≡ length es
   count-word = ap (λ (s : List ℕ). getD s 384 0) (h .whole) ∙ count-at table short right
@@ -194,7 +202,6 @@ module _ (b : List ℕ) (h : Valid b) where
     pub standing-word : getD b (320 + i) 0 % 131072 ≡ standingOf (getD es i noEntry)
     standing-word = ap (λ (w : ℕ). w % 131072) attributes-word ∙ standing-back (getD es i noEntry) (narrow-entry i)
 
-  -- one octet of the identifier
-  pub esi-word : (k : ℕ) → getD b (385 + k) 0 ≡ getD (table .esi) k 0
-  unfolding tableIn
-  esi-word k = sym (getD-drop 385 b k 0)
+  -- the identifier's words
+  pub esi-words : drop 385 b ≡ identifierWords (table .esi)
+  esi-words = ap (drop 385) (h .whole) ∙ esi-at table short right

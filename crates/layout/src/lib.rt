@@ -14,7 +14,7 @@ ghost use Rattle.layout.specs.Words.{kindOf, standingOf, tableIn, Valid,
 pub const MAX_ROUTES: usize = 64;
 
 // How many words a table has.
-pub const WORDS: usize = 395;
+pub const WORDS: usize = 388;
 
 // Where the parts of a table start in its words; the addresses start at 0.
 pub const ATTRIBUTES: usize = 320;

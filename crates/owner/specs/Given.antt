@@ -7,8 +7,8 @@ use mathlib.Core.List.{List, _++_}
 use lib.ListN.{replicate}
 use Rattle.esi.specs.Reserved.{reserved}
 use Rattle.layout.specs.Table.{ownerOf}
-use Rattle.layout.specs.Words.{Octets}
+use Rattle.layout.specs.Words.{identifierWords, Octets}
 use Rattle.refusals.specs.Refusals.{esiReserved}
 
 abbrev pub Given : List ℕ → ℕ → List ℕ → Type 0
-Given i n b = (n ≡ cond (reserved i) esiReserved 0) × (b ≡ replicate 385 0 ++ ownerOf i) × Octets (ownerOf i)
+Given i n b = (n ≡ cond (reserved i) esiReserved 0) × (b ≡ replicate 385 0 ++ identifierWords (ownerOf i)) × Octets (ownerOf i)

@@ -1,19 +1,16 @@
 -- Laws of `specs/Route.antt`: which check gives the number, what an accepted route has, and that a written route reads back. Assumes nothing.
-use Prim.Native.Nat.{ℕ, suc, _-_, _≤_, _<_}
+use Prim.Native.Nat.{ℕ, zero, suc, _-_, _≤_, _<_}
 use native.Mathlib.Omega.{arith}
-use mathlib.Core.Path.{_≡_, refl, ap, _∙_}
+use mathlib.Core.Path.{_≡_, refl, ap, _∙_, sym, subst}
 use mathlib.Core.Bool.{Bool, true, false, cond, not, _||_}
 use mathlib.Core.List.{List, []}
 use lib.ListN.{length, getD, take, drop}
 use lib.Dec.{eqb}
 use borrow.Author.Tests.{not-false, not-true, eq-eqb, ne-eqb, eqb-true, eqb-false, le-ltb, lt-ltb, ltb-true}
-use Rattle.lists.proofs.Bools.{cond-by, eq-not, ne-not, not-eq, or-left, or-right}
+use Rattle.lists.proofs.Bools.{cond-by, not-false-true, eq-not, ne-not, not-eq, or-left, or-right}
 use Rattle.lists.proofs.Checks.{refused-at, refused-none, passed, each}
-use Rattle.octets.specs.Octets.{numberOf}
-use Rattle.octets.proofs.Laws.{elements, word-elements}
 use Rattle.address.specs.Address.{addressRow, IsAddress, isZero}
 use Rattle.address.specs.declared.Address.{Address}
-use Rattle.address.specs.declared.Family.the-variants.{V4, V6}
 use Rattle.address.proofs.Laws.{row-address}
 use Rattle.esi.specs.Reserved.{reserved}
 use Rattle.esi.proofs.Laws.{length-not-reserved}
@@ -29,6 +26,25 @@ total-least b = cond-by (λ (n : ℕ). 25 ≤ n) (eqb b 128) (λ _. omega arith)
 pub total-most : (b : ℕ) → totalOf b ≤ 37
 unfolding totalOf
 total-most b = cond-by (λ (n : ℕ). n ≤ 37) (eqb b 128) (λ _. omega arith) (λ _. omega arith)
+
+-- the length of an address in bits is right or not, and the total that goes by it
+module _ (b : ℕ) where
+  pub bits-32 : b ≡ 32 → (eqb b 32 || eqb b 128) ≡ true
+  bits-32 e = rw e
+
+  pub bits-128 : b ≡ 128 → (eqb b 32 || eqb b 128) ≡ true
+  bits-128 e = rw e
+
+  pub bits-wrong : (b ≡ 32 → ⊥) → (b ≡ 128 → ⊥) → (eqb b 32 || eqb b 128) ≡ false
+  bits-wrong m n = rw (ne-eqb b 32 m, ne-eqb b 128 n)
+
+  pub total-32 : b ≡ 32 → totalOf b ≡ 25
+  unfolding totalOf
+  total-32 e = rw e
+
+  pub total-128 : b ≡ 128 → totalOf b ≡ 37
+  unfolding totalOf
+  total-128 e = rw e
 
 neither : (a m n : ℕ) → not (eqb a m || eqb a n) ≡ true → (a ≡ m → ⊥) × (a ≡ n → ⊥)
 neither a m n h =
@@ -123,23 +139,26 @@ module _ (s : List ℕ) where
               originates z =
                   accepted a q (refused-none _ (le-ltb _ _ l, (eq-not t, (ap not b, (rw (eq-not w) (eq-not m), (r, (rw (← q) z, tt)))))))
 
--- THE ORIGINATOR, word by word
+-- what each case says, of the answer itself
 module _ (s : List ℕ) where
-  pub ipv4-words : (v : ℕ) → 25 ≤ length s → v ≡ numberOf (elements 4 21 s) → record { family = V4; w0 = v; w1 = 0; w2 = 0; w3 = 0 } ≡ ipv4In s
-  unfolding ipv4In
-  ipv4-words v l q = rw (word-elements 21 v s (omega arith) q)
+  answers-by : (n : ℕ) → n ≡ routeNumber s → Answers s (routeChecked s)
+  answers-by zero e = let a = accepted s (routeOriginator s) refl e in subst (Answers s) (a .0) a
+  answers-by (suc n) e = let a = refused s n (offsetOf (suc n) s) e refl in subst (Answers s) (a .0) a
 
-  pub ipv6-words : (a b c d : ℕ) → 37 ≤ length s
-      → a ≡ numberOf (elements 4 21 s) → b ≡ numberOf (elements 4 25 s) → c ≡ numberOf (elements 4 29 s) → d ≡ numberOf (elements 4 33 s)
-      → record { family = V6; w0 = a; w1 = b; w2 = c; w3 = d } ≡ ipv6In s
-  unfolding ipv6In
-  ipv6-words a b c d l p q r t =
-      rw (word-elements 21 a s (omega arith) p, word-elements 25 b s (omega arith) q, word-elements 29 c s (omega arith) r, word-elements 33 d s (omega arith) t)
+  pub answers : (c : Checked) → c ≡ routeChecked s → Answers s c
+  answers c e = subst (Answers s) (sym e) (answers-by (routeNumber s) refl)
 
-  -- by the family
-  pub total-six : length s ≡ routeTotal s → getD s 20 0 ≡ 128 → 37 ≤ length s
+-- THE ORIGINATOR
+module _ (s : List ℕ) where
+  -- a route of the right length has 37 octets exactly if its address has 128 bits
+  pub bits-six : length s ≡ routeTotal s → length s ≡ 37 → getD s 20 0 ≡ 128
   unfolding totalOf
-  total-six e b = let n : routeTotal s ≡ 37 = rw (eq-eqb (getD s 20 0) 128 b) in omega (arith, e, n)
+  bits-six e n =
+      eqb-true (getD s 20 0) 128 (not-false-true (λ f. let m : routeTotal s ≡ 25 = rw f in omega (arith, e, n, m)))
+
+  pub bits-four : length s ≡ routeTotal s → (length s ≡ 37 → ⊥) → getD s 20 0 ≡ 128 → ⊥
+  unfolding totalOf
+  bits-four e n b = n (e ∙ rw (eq-eqb (getD s 20 0) 128 b))
 
   pub total-four : length s ≡ routeTotal s → 25 ≤ length s
   total-four e = omega (arith, e, total-least (getD s 20 0))

@@ -8,8 +8,8 @@ use refusals::WRONG_LENGTH;
 use refusals::WRONG_TYPE;
 ghost use mathlib.Core.Path.{_≡_};
 ghost use Prim.Native.Nat.{_≤_};
-ghost use mathlib.Core.Bool.{_||_};
-ghost use lib.ListN.{length};
+ghost use mathlib.Core.Bool.{true, _||_};
+ghost use lib.ListN.{length, getD};
 ghost use lib.Dec.{eqb};
 ghost use Rattle.route.specs.Route.{
   totalOf,
@@ -53,16 +53,6 @@ pub fn offset(c: Checked) -> usize
     }
 }
 
-// Whether a number is the length of an address in bits.
-fn is_address_length(bits: u8) -> bool
-    ensures { λ r. ⌜ r ≡ (eqb bits 32 || eqb bits 128) ⌝ }
-{
-    if bits == 32 {
-        return true;
-    }
-    bits == 128
-}
-
 // How many octets a route has whose address has so many bits: 37 for 128, else 25.
 pub fn total(bits: u8) -> usize
     ensures { λ r. ⌜ r ≡ totalOf bits ⌝ }
@@ -78,7 +68,7 @@ fn ipv4(s: &[u8]) -> Address
     requires { ⌜ 25 ≤ length (now s) ⌝ }
     ensures { λ r. ⌜ r ≡ ipv4In (now (s .entry)) ⌝ }
 {
-    let w0 = octets::u32_of(s[21], s[22], s[23], s[24]);
+    let w0 = octet_words::high_four(s, 21);
     Address {
         family: Family::V4,
         w0: w0,
@@ -93,10 +83,10 @@ fn ipv6(s: &[u8]) -> Address
     requires { ⌜ 37 ≤ length (now s) ⌝ }
     ensures { λ r. ⌜ r ≡ ipv6In (now (s .entry)) ⌝ }
 {
-    let w0 = octets::u32_of(s[21], s[22], s[23], s[24]);
-    let w1 = octets::u32_of(s[25], s[26], s[27], s[28]);
-    let w2 = octets::u32_of(s[29], s[30], s[31], s[32]);
-    let w3 = octets::u32_of(s[33], s[34], s[35], s[36]);
+    let w0 = octet_words::high_four(s, 21);
+    let w1 = octet_words::high_four(s, 25);
+    let w2 = octet_words::high_four(s, 29);
+    let w3 = octet_words::high_four(s, 33);
     Address {
         family: Family::V6,
         w0: w0,
@@ -111,10 +101,32 @@ fn originator(s: &[u8]) -> Address
     requires { ⌜ length (now s) ≡ routeTotal (now s) ⌝ }
     ensures { λ r. ⌜ r ≡ routeOriginator (now (s .entry)) ⌝ }
 {
-    if s[20] == 128 {
+    if s.len() == 37 {
         return ipv6(s);
     }
     ipv4(s)
+}
+
+// The checks that go by the family, for a route of type 4 whose address length is right: not 25 (37) octets or length octet not 23 (35), 1; identifier reserved, 4;
+// address zero, 6. `wanted` is how many octets it should have.
+fn check_framed(s: &[u8], wanted: usize) -> Checked
+    requires { ⌜ (21 ≤ length (now s)) × (getD (now s) 0 0 ≡ 4) × ((eqb (getD (now s) 20 0) 32 || eqb (getD (now s) 20 0) 128) ≡ true) × (wanted ≡ routeTotal (now s)) ⌝ }
+    ensures { λ r. ⌜ r ≡ routeChecked (now (s .entry)) ⌝ }
+{
+    if s.len() != wanted {
+        return Checked::Refused(WRONG_LENGTH, s.len());
+    }
+    if s[1] as usize != wanted - 2 {
+        return Checked::Refused(WRONG_LENGTH, 1);
+    }
+    if esi::is_reserved(&s[10..20]) {
+        return Checked::Refused(ESI_RESERVED, 10);
+    }
+    let a = originator(s);
+    if address::is_zero(a) {
+        return Checked::Refused(ADDRESS_ZERO, 21);
+    }
+    Checked::Originator(a)
 }
 
 // Checks a route, in document 01's order: fewer than 21 octets, 1; type not 4, 2; address length neither 32 nor 128, 3; not 25 (37) octets or length octet
@@ -134,22 +146,11 @@ pub fn check(s: &[u8]) -> Checked
     if s[0] != 4 {
         return Checked::Refused(WRONG_TYPE, 0);
     }
-    if !is_address_length(s[20]) {
-        return Checked::Refused(WRONG_ADDRESS_LENGTH, 20);
+    if s[20] == 32 {
+        return check_framed(s, 25);
     }
-    let wanted = total(s[20]);
-    if s.len() != wanted {
-        return Checked::Refused(WRONG_LENGTH, s.len());
+    if s[20] == 128 {
+        return check_framed(s, 37);
     }
-    if s[1] as usize != wanted - 2 {
-        return Checked::Refused(WRONG_LENGTH, 1);
-    }
-    if esi::is_reserved(&s[10..20]) {
-        return Checked::Refused(ESI_RESERVED, 10);
-    }
-    let a = originator(s);
-    if address::is_zero(a) {
-        return Checked::Refused(ADDRESS_ZERO, 21);
-    }
-    Checked::Originator(a)
+    Checked::Refused(WRONG_ADDRESS_LENGTH, 20)
 }

@@ -20,11 +20,11 @@ module _ (b : List ℕ) (v : ValidSegment b) where
   -- the call c, which answers and leaves the change k of the table
   pub table-told : (c : Call) (k : Change) → Changes before c (k .number) (record { table = k .table; settings = before .settings })
       → (n p : ℕ) (y : List ℕ) → Told k n p y → Valid y
-      → SegmentTold k (before .settings) n p (y ++ drop 395 b)
-      × ValidSegment (y ++ drop 395 b)
-      × Changes before c n (segmentIn (y ++ drop 395 b))
-      × Follows before c (changeReply n) (segmentIn (y ++ drop 395 b))
+      → SegmentTold k (before .settings) n p (y ++ drop 388 b)
+      × ValidSegment (y ++ drop 388 b)
+      × Changes before c n (segmentIn (y ++ drop 388 b))
+      × Follows before c (changeReply n) (segmentIn (y ++ drop 388 b))
   table-told c k h n p y o w =
       let e = table-written b v y w in
-      let t = lands before c n (segmentIn (y ++ drop 395 b)) _ (e .0) (table-changes before c k n p y h o) in
+      let t = lands before c n (segmentIn (y ++ drop 388 b)) _ (e .0) (table-changes before c k n p y h o) in
       ((o .0, o .1, e .0 ∙ ap (λ (x : Table). record { table = x; settings = before .settings }) (o .2)), e .1, t .0, t .1)

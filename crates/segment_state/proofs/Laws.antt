@@ -14,10 +14,10 @@ use Rattle.segment_state.specs.State.{Segment, segmentIn, ValidSegment}
 
 -- A STATE PUT TOGETHER from the words of a table and those of settings
 module _ (x y : List ℕ) (v : Valid x) (w : ValidSettings y) where
-  front : take 395 (x ++ y) ≡ x
+  front : take 388 (x ++ y) ≡ x
   front = subst (λ (n : ℕ). take n (x ++ y) ≡ x) (length-valid x v) (take-append-seam x y)
 
-  back : drop 395 (x ++ y) ≡ y
+  back : drop 388 (x ++ y) ≡ y
   back = subst (λ (n : ℕ). drop n (x ++ y) ≡ y) (length-valid x v) (drop-append-seam x y)
 
   pub together : (segmentIn (x ++ y) ≡ record { table = tableIn x; settings = settingsIn y }) × ValidSegment (x ++ y)
@@ -26,23 +26,23 @@ module _ (x y : List ℕ) (v : Valid x) (w : ValidSettings y) where
 
 -- A STATE TAKEN APART
 module _ (b : List ℕ) (v : ValidSegment b) where
-  pub length-state : length b ≡ 497
-  length-state = omega (arith, length-settings (drop 395 b) (v .settings), length-drop 395 b)
+  pub length-state : length b ≡ 490
+  length-state = omega (arith, length-settings (drop 388 b) (v .settings), length-drop 388 b)
 
   -- the words after the table's, as they are lent
-  pub settings-part : take (length b - 395) (drop 395 b) ≡ drop 395 b
-  settings-part = part-from 395 b
+  pub settings-part : take (length b - 388) (drop 388 b) ≡ drop 388 b
+  settings-part = part-from 388 b
 
-  pub valid-settings-part : ValidSettings (take (length b - 395) (drop 395 b))
+  pub valid-settings-part : ValidSettings (take (length b - 388) (drop 388 b))
   valid-settings-part = rw settings-part (v .settings)
 
   -- the table's words written anew, and the settings'
-  pub table-written : (y : List ℕ) → Valid y → (segmentIn (y ++ drop 395 b) ≡ record { table = tableIn y; settings = segmentIn b .settings }) × ValidSegment (y ++ drop 395 b)
+  pub table-written : (y : List ℕ) → Valid y → (segmentIn (y ++ drop 388 b) ≡ record { table = tableIn y; settings = segmentIn b .settings }) × ValidSegment (y ++ drop 388 b)
   unfolding segmentIn
-  table-written y w = together y (drop 395 b) w (v .settings)
+  table-written y w = together y (drop 388 b) w (v .settings)
 
   pub settings-written : (y : List ℕ) → ValidSettings y
-      → (segmentIn (take 395 b ++ (y ++ drop (length b - 395) (drop 395 b))) ≡ record { table = segmentIn b .table; settings = settingsIn y })
-      × ValidSegment (take 395 b ++ (y ++ drop (length b - 395) (drop 395 b)))
+      → (segmentIn (take 388 b ++ (y ++ drop (length b - 388) (drop 388 b))) ≡ record { table = segmentIn b .table; settings = settingsIn y })
+      × ValidSegment (take 388 b ++ (y ++ drop (length b - 388) (drop 388 b)))
   unfolding segmentIn
-  settings-written y w = rw (none-behind 395 b y) (together (take 395 b) y (v .table) w)
+  settings-written y w = rw (none-behind 388 b y) (together (take 388 b) y (v .table) w)

@@ -1,5 +1,5 @@
--- The state of a segment: its route table (document 01, "The table") and what the operator has set upon it (document 02, M-106 and M-109), in 497 words that a caller lends:
--- the table's 395, and then those of the settings.
+-- The state of a segment: its route table (document 01, "The table") and what the operator has set upon it (document 02, M-106 and M-109), in 490 words that a caller lends:
+-- the table's 388, and then those of the settings.
 --   Segment          == a route table and settings
 --   freshSegment i   == what the fresh call leaves for the identifier i: an empty table, and none set
 --   segmentWords s   == THE words of the state s
@@ -27,11 +27,11 @@ abbrev pub segmentWords : Segment → List ℕ
 segmentWords s = wordsOf (s .table) ++ settingsWords (s .settings)
 
 unfoldable pub segmentIn : List ℕ → Segment
-segmentIn b = record { table = tableIn (take 395 b); settings = settingsIn (drop 395 b) }
+segmentIn b = record { table = tableIn (take 388 b); settings = settingsIn (drop 388 b) }
 
 pub record ValidSegment (b : List ℕ) : Type 0 where
-  pub table : Valid (take 395 b)
-  pub settings : ValidSettings (drop 395 b)
+  pub table : Valid (take 388 b)
+  pub settings : ValidSettings (drop 388 b)
 
 -- what a call answers and leaves. Where the words are valid, this decides every one of them
 abbrev pub SegmentTold : Change → Settings → ℕ → ℕ → List ℕ → Type 0

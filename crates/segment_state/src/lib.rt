@@ -2,7 +2,7 @@
 // `segment`.
 
 // How many words a state has.
-pub const WORDS: usize = 497;
+pub const WORDS: usize = 490;
 
 // Where the settings start: so many words are the table's.
-pub const SETTINGS: usize = 395;
+pub const SETTINGS: usize = 388;

@@ -25,7 +25,7 @@ use Rattle.rows.specs.declared.Found.the-variants.{At, Missing}
 use Rattle.rows.proofs.Compared.{Words, words-part}
 use Rattle.rows.proofs.Places.{present-at, at-lt}
 use Rattle.layout.specs.Table.{Entry, entryKey, noEntry, entryOf, AddressRight, Table, tableOf, WellFormed, ownerOf}
-use Rattle.layout.specs.Words.{attributesOf, kindOf, standingOf, entryIn, wordsOf, tableIn, Octets, Valid, Packed}
+use Rattle.layout.specs.Words.{attributesOf, kindOf, standingOf, entryIn, identifierWords, wordsOf, tableIn, Octets, Valid, Packed}
 use Rattle.layout.proofs.Words.{Narrow, entry-back, address-row, table-in, valid-of, narrow-entries}
 use Rattle.owner.specs.Given.{Given}
 use Rattle.table.specs.Table.{Change, announceNumber, withdrawNumber, freshTable, announced, withdrawn, Told}
@@ -37,7 +37,7 @@ stored-of : (c x : Change) (b : List ℕ) → x ≡ c → b ≡ wordsOf (x .tabl
 stored-of c x b e q = (ap (λ (y : Change). y .number) e, q ∙ ap (λ (y : Change). wordsOf (y .table)) e)
 
 -- FRESH
-empty-words : (i : List ℕ) → wordsOf (tableOf i []) ≡ replicate 385 0 ++ i
+empty-words : (i : List ℕ) → wordsOf (tableOf i []) ≡ replicate 385 0 ++ identifierWords i
 unfolding wordsOf column flat
 empty-words i = refl
 
@@ -52,7 +52,7 @@ module _ (i : List ℕ) where
       let t = tableOf (ownerOf i) [] in
       let w : WellFormed t = calls.fresh-kept i in
       let f : b ≡ wordsOf t = q ∙ sym (empty-words (ownerOf i)) in
-      ((e, refl, ap tableIn f ∙ table-in t (w .short) tt tt), subst Valid (sym f) (valid-of t w tt o))
+      ((e, refl, ap tableIn f ∙ table-in t w tt o), subst Valid (sym f) (valid-of t w tt o))
 
 -- AN ENTRY and its words
 pub packed-entry : (a : List ℕ) (w : ℕ) (e : Election) → Packed e w → entryIn a (w ∷ []) ≡ entryOf a e
@@ -97,7 +97,8 @@ module _ (b : List ℕ) (h : Valid b) where
   stored-valid : (c : Change) (n : ℕ) (x : List ℕ) → Stored c n x → WellFormed (c .table) → Every Narrow (c .table .entries) → c .table .esi ≡ t .esi
       → (tableIn x ≡ c .table) × Valid x
   stored-valid c n x o k m e =
-      (ap tableIn (o .1) ∙ table-in (c .table) (k .short) (k .addresses) m, subst Valid (sym (o .1)) (valid-of (c .table) k m (subst Octets (sym e) (h .octets))))
+      let i : Octets (c .table .esi) = subst Octets (sym e) (h .octets) in
+      (ap tableIn (o .1) ∙ table-in (c .table) k m i, subst Valid (sym (o .1)) (valid-of (c .table) k m i))
 
   narrow-change : (n : ℕ) (l : List Entry) → Every Narrow l → Every Narrow (cond (eqb n 0) (tableOf (t .esi) l) t .entries)
   narrow-change n l m = cond-by (λ (x : Table). Every Narrow (x .entries)) (eqb n 0) (λ _. m) (λ _. narrow-entries b h)

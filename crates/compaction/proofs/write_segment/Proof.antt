@@ -11,7 +11,7 @@ use Rattle.compaction.proofs.write_segment.Tie as tie
 slice-aggregate-write-log : tie.Need-slice-aggregate-write-log
 slice-aggregate-write-log c =
     let start = c .before .before .before in
-    sym (length-take-le 395 (start .args .s .now) (omega (arith, length-state (start .args .s .now) (start .pre))))
+    sym (length-take-le 388 (start .args .s .now) (omega (arith, length-state (start .args .s .now) (start .pre))))
 
 returns : tie.Need-returns
 unfolding segmentIn

@@ -26,7 +26,7 @@ module _ (r : tie.After-row2) where
   abbrev n : ℕ
   n = r .before .before .before .count .result
 
-  sized : length words ≡ 395
+  sized : length words ≡ 388
   sized = length-valid words (from .pre .0)
 
   width : length (r .before .before .row .result) ≡ 5
@@ -42,7 +42,7 @@ module _ (o : tie.After-insert) where
   abbrev first : List ℕ
   first = o .insert .last .0
 
-  first-sized : length first ≡ 395
+  first-sized : length first ≡ 388
   first-sized =
       let r = o .before in
       ap length (o .insert .ensures) ∙ length-inserted (n r) (from r .args .at) (r .before .before .row .result) (words r) (asks r .0) (asks r .1) ∙ sized r

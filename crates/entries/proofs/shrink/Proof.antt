@@ -24,7 +24,7 @@ module _ (r : tie.After-remove-arg) where
   abbrev n : ℕ
   n = r .before .count .result
 
-  sized : length words ≡ 395
+  sized : length words ≡ 388
   sized = length-valid words (from .pre .0)
 
   asks : (from .args .at < n) × (n * 5 ≤ length words)
@@ -37,7 +37,7 @@ module _ (o : tie.After-remove) where
   abbrev first : List ℕ
   first = o .remove .last .0
 
-  first-sized : length first ≡ 395
+  first-sized : length first ≡ 388
   first-sized = let r = o .before in ap length (o .remove .ensures) ∙ length-removed 5 (n r) (from r .args .at) (words r) (asks r .0) (asks r .1) ∙ sized r
 
   part-asks : n (o .before) * 1 ≤ length (take (length first - 320) (drop 320 first))

@@ -1,39 +1,12 @@
 -- `ipv6` meets its contract. Assumes nothing.
 use borrow.Author.Needs.{needs}
-use native.Mathlib.Omega.{arith}
-use Rattle.route.proofs.Laws.{ipv6-words}
+use Rattle.route.specs.Route.{ipv6In}
 use Rattle.route.proofs.ipv6.Statement.{statement}
 use Rattle.route.proofs.ipv6.Tie as tie
 
 returns : tie.Need-returns
-returns c =
-    let third = c .before .before .before .before .before in
-    let second = third .before .before .before .before .before in
-    let first = second .before .before .before .before .before in
-    ipv6-words _ _ _ _ _ (omega arith) (first .u32-of .ensures) (second .u32-of2 .ensures) (third .u32-of3 .ensures) (c .u32-of4 .ensures)
+unfolding ipv6In
+returns c = rw (c .before .before .before .high-four .ensures, c .before .before .high-four2 .ensures, c .before .high-four3 .ensures, c .high-four4 .ensures)
 
 pub ipv6-spec : {M : Type 1} → statement M
-ipv6-spec =
-    tie.close
-    (tie.spec
-    (λ c. search needs)
-    (λ c. search needs)
-    (λ c. search needs)
-    (λ c. search needs)
-    (λ c κs. search needs)
-    (λ c. search needs)
-    (λ c. search needs)
-    (λ c. search needs)
-    (λ c. search needs)
-    (λ c κs. search needs)
-    (λ c. search needs)
-    (λ c. search needs)
-    (λ c. search needs)
-    (λ c. search needs)
-    (λ c κs. search needs)
-    (λ c. search needs)
-    (λ c. search needs)
-    (λ c. search needs)
-    (λ c. search needs)
-    (λ c κs. search needs)
-    returns)
+ipv6-spec = tie.close (tie.spec (λ c κs. search needs) (λ c κs. search needs) (λ c κs. search needs) (λ c κs. search needs) returns)

@@ -27,7 +27,7 @@ announce-spec =
     tie.close
     (tie.spec
     (λ c. let s = c .before .before .before in omega (arith, length-state (s .args .s .now) (s .pre)))
-    (λ c. let s = c .before .before .before .before in sym (length-take-le 395 (s .args .s .now) (omega (arith, length-state (s .args .s .now) (s .pre)))))
+    (λ c. let s = c .before .before .before .before in sym (length-take-le 388 (s .args .s .now) (omega (arith, length-state (s .args .s .now) (s .pre)))))
     (λ c κs. c .before .before .before .before .pre .table)
     (λ c. search needs)
     returns)

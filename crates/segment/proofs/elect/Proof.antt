@@ -32,7 +32,7 @@ pub elect-spec : {M : Type 1} → statement M
 elect-spec =
     tie.close
     (tie.spec
-    (λ c. let s = c .before .before .before in sym (length-take-le 395 (s .args .s .now) (omega (arith, length-state (s .args .s .now) (s .pre)))))
+    (λ c. let s = c .before .before .before in sym (length-take-le 388 (s .args .s .now) (omega (arith, length-state (s .args .s .now) (s .pre)))))
     (λ c. let s = c .before .before .before in omega (arith, length-state (s .args .s .now) (s .pre)))
     (λ c. let s = c .before .before .before in omega (arith, length-state (s .args .s .now) (s .pre)))
     (λ c. search needs)

@@ -37,7 +37,7 @@ returns c =
             returning-follows s (addressRow (a .address)) (a .algorithm) (a .preference) (a .dp) call,
             λ d.
                 non-revertive s (a .address) (a .algorithm) (a .preference) (w .0) (w .1) (w .2) (w .3) (start .fits .preference .fits)
-                (start .pre .table .sound) (narrow-entries (take 395 (a .s .now)) (start .pre .table)) (start .pre .settings .sound) _
+                (start .pre .table .sound) (narrow-entries (take 388 (a .s .now)) (start .pre .table)) (start .pre .settings .sound) _
                 (told ∙ ap (λ (b : Bool). returningWith (s .settings) (s .table .entries) (addressRow (a .address)) (a .algorithm) (a .preference) b) d),
           ),
         ),
@@ -49,7 +49,7 @@ returning-spec =
     tie.close
     (tie.spec
     (λ c κs. search needs)
-    (λ c. let s = c .before .before .before in sym (length-take-le 395 (s .args .s .now) (omega (arith, length-state (s .args .s .now) (s .pre)))))
+    (λ c. let s = c .before .before .before in sym (length-take-le 388 (s .args .s .now) (omega (arith, length-state (s .args .s .now) (s .pre)))))
     (λ c. let s = c .before .before .before in omega (arith, length-state (s .args .s .now) (s .pre)))
     (λ c. let s = c .before .before .before in omega (arith, length-state (s .args .s .now) (s .pre)))
     (λ c. search needs)

@@ -37,7 +37,7 @@ withdraw-spec =
     (tie.spec
     (λ c κs. search needs)
     (λ c. let s = c .before .before in omega (arith, length-state (s .args .s .now) (s .pre)))
-    (λ c. let s = c .before .before .before in sym (length-take-le 395 (s .args .s .now) (omega (arith, length-state (s .args .s .now) (s .pre)))))
+    (λ c. let s = c .before .before .before in sym (length-take-le 388 (s .args .s .now) (omega (arith, length-state (s .args .s .now) (s .pre)))))
     (λ c κs. c .before .before .before .pre .table)
     (λ c. search needs)
     returns)
