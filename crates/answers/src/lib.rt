@@ -48,13 +48,13 @@ fn digest_under(t: &[u32], algorithm: u8, tag: u32) -> u32
     hrw::digest(tag, esi)
 }
 
-// Of a set of places in use, which is not empty, the one that is elected for a tag.
-pub fn place_by_tag(t: &[u32], algorithm: u8, set: u64, tag: u32) -> usize
-    requires { ⌜ Valid (now t) × (set ≡ 0 → ⊥) × (set < 2 ^ length (tableIn (now t) .entries)) ⌝ }
+// Of a set of n places in use, which is not empty, the one that is elected for a tag.
+pub fn place_by_tag(t: &[u32], algorithm: u8, set: u64, n: u32, tag: u32) -> usize
+    requires { ⌜ Valid (now t) × (set ≡ 0 → ⊥) × (set < 2 ^ length (tableIn (now t) .entries)) × (n ≡ length (places set)) ⌝ }
     ensures { λ r. ⌜ ElectedAt (tableIn (now (t .entry)) .entries) algorithm (digestOf tag (tableIn (now (t .entry)) .esi)) set tag r ⌝ }
 {
     let digest = digest_under(t, algorithm, tag);
-    winner::elected_place(t, set, algorithm, tag, digest)
+    winner::elected_place(t, set, n, algorithm, tag, digest)
 }
 
 // The same for a multicast flow, whose digest is taken over S, G, the tag and the identifier: by the greatest weight, as algorithm 1 has it.
@@ -64,16 +64,15 @@ pub fn place_by_flow(t: &[u32], set: u64, source: &[u8], group: &[u8], tag: u32)
 {
     let esi = owner::identifier(t);
     let digest = hrw::flow_digest(source, group, tag, esi);
-    winner::elected_place(t, set, 1, tag, digest)
+    winner::best(t, set, 1, digest)
 }
 
-// The answer that names the router at a place. N is the number of the ones of the candidate set.
-pub fn named(t: &[u32], algorithm: u8, set: u64, at: usize) -> Answer
-    requires { ⌜ Valid (now t) × (at < length (tableIn (now t) .entries)) ⌝ }
+// The answer that names the router at a place, where the candidate set has n places. N is the number of the ones of the set.
+pub fn named(t: &[u32], algorithm: u8, set: u64, n: u32, at: usize) -> Answer
+    requires { ⌜ Valid (now t) × (at < length (tableIn (now t) .entries)) × (n ≡ length (places set)) ⌝ }
     ensures answer { λ r. ⌜ r ≡ namedAnswer (getD (tableIn (now (t .entry)) .entries) at noEntry .address) algorithm (length (places set)) set ⌝ }
     ensures counted { λ r. ⌜ r .n ≡ ones (r .candidates) ⌝ }
 {
-    let n = places::count(set);
     let family = layout::family_at(t, at);
     let address = layout::words_at(t, at);
     Answer {

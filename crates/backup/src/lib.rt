@@ -64,9 +64,9 @@ fn second_of(t: &[u32], algorithm: u8, set: u64, tag: u32) -> usize
     requires { ⌜ Valid (now t) × (1 < length (places set)) × (set < 2 ^ length (tableIn (now t) .entries)) ⌝ }
     ensures { λ r. ⌜ SecondAt (tableIn (now (t .entry)) .entries) (byTag algorithm tag (tableIn (now (t .entry)) .esi)) set tag r ⌝ }
 {
-    let first = answers::place_by_tag(t, algorithm, set, tag);
+    let first = answers::place_by_tag(t, algorithm, set, places::count(set), tag);
     let rest = places::without(set, first);
-    answers::place_by_tag(t, algorithm, rest, tag)
+    answers::place_by_tag(t, algorithm, rest, places::count(rest), tag)
 }
 
 // The answer for a set of places in use, by an algorithm: 12 where it has fewer than two.

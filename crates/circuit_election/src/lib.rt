@@ -31,7 +31,8 @@ pub fn elect_by_circuits(t: &[u32], settings: &[u32], circuits: &[u32], tag: u32
     if set == 0 {
         return answers::refusal(NONE_ELIGIBLE);
     }
+    let n = places::count(set);
     let algorithm = election::plain_algorithm(settings, tag, u.algorithm);
-    let at = answers::place_by_tag(t, algorithm, set, tag);
-    answers::named(t, algorithm, set, at)
+    let at = answers::place_by_tag(t, algorithm, set, n, tag);
+    answers::named(t, algorithm, set, n, at)
 }

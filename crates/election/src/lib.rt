@@ -75,13 +75,14 @@ pub fn elect_query(
     if set == 0 {
         return answers::refusal(NONE_ELIGIBLE);
     }
+    let n = places::count(set);
     if agreed_on(u.algorithm, number) {
         let by_flow = answers::place_by_flow(t, set, source, group, tag);
-        return answers::named(t, u.algorithm, set, by_flow);
+        return answers::named(t, u.algorithm, set, n, by_flow);
     }
     let algorithm = plain_algorithm(settings, tag, u.algorithm);
-    let at = answers::place_by_tag(t, algorithm, set, tag);
-    answers::named(t, algorithm, set, at)
+    let at = answers::place_by_tag(t, algorithm, set, n, tag);
+    answers::named(t, algorithm, set, n, at)
 }
 
 // Elects the Designated Forwarder for a tag: 10 for tag 0 or 4,294,967,295, 11 for a ready list over 64 rows of five words, 12 where no route is eligible.

@@ -62,9 +62,9 @@ fn reach(algorithm: u8, own: u16, reference: u16) -> bool
     reference <= own
 }
 
-// What is sent beside the reference of an algorithm among the routes of a set of places, where the own DP is set.
+// What is sent beside the reference of algorithm 2 or 3 among the routes of a set of places, where the own DP is set.
 fn beside_reference(t: &[u32], set: u64, algorithm: u8, preference: u16) -> Sent
-    requires { ⌜ Valid (now t) × (set < 2 ^ length (tableIn (now t) .entries)) × (set ≡ 0 → ⊥) ⌝ }
+    requires { ⌜ Valid (now t) × (set < 2 ^ length (tableIn (now t) .entries)) × (set ≡ 0 → ⊥) × (algorithm ≡ 1 → ⊥) ⌝ }
     ensures { λ r. ⌜ r ≡ besideReference algorithm preference true (reference algorithm (entriesAt (tableIn (now (t .entry)) .entries) (places set))) ⌝ }
 {
     let own = Sent {
@@ -72,7 +72,7 @@ fn beside_reference(t: &[u32], set: u64, algorithm: u8, preference: u16) -> Sent
         preference: preference,
         dp: true,
     };
-    let at = winner::best(t, set, algorithm, 0);
+    let at = winner::preferred(t, set, algorithm);
     let standing = layout::standing_at(t, at);
     if standing % 2 != 1 {
         return own;
@@ -100,9 +100,9 @@ fn beside_both(t: &[u32], set: u64, preference: u16) -> Sent
     beside_reference(t, set, 3, preference)
 }
 
-// What is sent beside the other routes, which stand at a set of places; `ranges` tells whether any range is set.
+// What is sent beside the other routes, which stand at a set of places, where the own algorithm is 2 or 3; `ranges` tells whether any range is set.
 fn beside(t: &[u32], set: u64, ranges: bool, algorithm: u8, preference: u16, dp: bool) -> Sent
-    requires { ⌜ Valid (now t) × (set < 2 ^ length (tableIn (now t) .entries)) ⌝ }
+    requires { ⌜ Valid (now t) × (set < 2 ^ length (tableIn (now t) .entries)) × (algorithm ≡ 1 → ⊥) ⌝ }
     ensures { λ r. ⌜ r ≡ cond ranges (advertisedBoth algorithm preference dp (entriesAt (tableIn (now (t .entry)) .entries) (places set))) (advertised algorithm preference dp (entriesAt (tableIn (now (t .entry)) .entries) (places set))) ⌝ }
 {
     let own = Sent {

@@ -50,6 +50,18 @@ pub score-plain : (a d s : ℕ) (e : Entry) → (a ≡ 1 → ⊥) → (a ≡ 3 �
 unfolding scoreOf standingOf
 score-plain a d s e n t q = q ∙ rw (ne-eqb a 1 n, ne-eqb a 3 t)
 
+-- THE BEST AT A PLACE: also under another number and digest whose order is the same, and then it is the elected one if the number is not 0
+abbrev BestAt : List Entry → ℕ → ℕ → ℕ → ℕ → Type 0
+BestAt es a d s r = (r < length es) × (getD es r noEntry ≡ bestOf (better a d) noEntry (entriesAt es (places s)))
+
+module _ (es : List Entry) (s : ℕ) where
+  pub best-as : {r : ℕ} (a d b f : ℕ) → better a d ≡ better b f → BestAt es a d s r → BestAt es b f s r
+  best-as a d b f e q = (q .0, q .1 ∙ ap (λ (B : Entry → Entry → Bool). bestOf B noEntry (entriesAt es (places s))) e)
+
+  pub elected-best : {r : ℕ} (a tag d : ℕ) → (a ≡ 0 → ⊥) → BestAt es a d s r → (r < length es) × (getD es r noEntry ≡ elected a tag d (entriesAt es (places s)))
+  unfolding elected
+  elected-best a tag d z q = (q .0, q .1 ∙ sym (rw (ne-eqb a 0 z)))
+
 -- THE ENTRIES AT PLACES that rise have keys that rise
 module _ (es : List Entry) (short : length es ≤ 64) (rising : Rising entryKey 1 es) where
   entry-at : (ps : List ℕ) (i : ℕ) → getD (entriesAt es ps) i noEntry ≡ getD es (getD ps i 64) noEntry
@@ -99,8 +111,3 @@ module _ (es : List Entry) (short : length es ≤ 64) (rising : Rising entryKey 
         let l : tag % n < length (places s) = rw e (mod-lt tag some-places) in
         let m : length (entriesAt es (places s)) ≡ n = length-map (places s) (λ (k : ℕ). getD es k noEntry) ∙ sym e in
         (rw q (rises-below 0 (length es) (places s) (tag % n) 64 (places-under s (length es) under) l), sym (rw (eq-eqb a 0 z, m) (entry-at (places s) (tag % n)) ∙ ap (λ (i : ℕ). getD es i noEntry) (sym q)))
-
-    pub elected-best : (r : ℕ) → (a ≡ 0 → ⊥) → (r < length es) × (getD es r noEntry ≡ bestOf (better a d) noEntry (entriesAt es (places s)))
-        → (r < length es) × (getD es r noEntry ≡ elected a tag d (entriesAt es (places s)))
-    unfolding elected
-    elected-best r z q = (q .0, q .1 ∙ sym (rw (ne-eqb a 0 z)))

@@ -32,6 +32,11 @@ pub better-any : (a d f : ℕ) → eqb a 1 ≡ false → better a d ≡ better a
 unfolding better
 better-any a d f n = rw n
 
+-- and all of them but 3 go as 2
+pub better-two : (a d : ℕ) → eqb a 1 ≡ false → eqb a 3 ≡ false → better a d ≡ better 2 d
+unfolding better
+better-two a d n t = rw (n, t)
+
 -- A SCORE: preference and DP as one number decide as the two criteria do
 abbrev withBit : ℕ → Bool → ℕ
 withBit p b = p * 2 + bit b

@@ -29,8 +29,9 @@ fn score(t: &[u32], at: usize, algorithm: u8, digest: u32) -> u32
     standing
 }
 
-// Of a set of places in use, which is not empty, the one whose entry is the best under algorithm 1, 2 or 3.
-pub fn best(t: &[u32], set: u64, algorithm: u8, digest: u32) -> usize
+// Of a set of places in use, which is not empty, the one whose entry is the best under algorithm 1, 2 or 3, by a walk over its places. Each call names the
+// algorithm by a constant, so that the compiler makes a loop for each.
+fn best_under(t: &[u32], set: u64, algorithm: u8, digest: u32) -> usize
     requires { ⌜ Valid (now t) × (set ≡ 0 → ⊥) × (set < 2 ^ length (tableIn (now t) .entries)) ⌝ }
     ensures { λ r. ⌜ (r < length (tableIn (now (t .entry)) .entries)) × (getD (tableIn (now (t .entry)) .entries) r noEntry ≡ bestOf (better algorithm digest) noEntry (entriesAt (tableIn (now (t .entry)) .entries) (places set))) ⌝ }
 {
@@ -49,13 +50,34 @@ pub fn best(t: &[u32], set: u64, algorithm: u8, digest: u32) -> usize
     at
 }
 
-// Of a set of places in use, which is not empty, the one that is elected for a tag: under algorithm 0 the one at tag mod N, else the best.
-pub fn elected_place(t: &[u32], set: u64, algorithm: u8, tag: u32, digest: u32) -> usize
+// Of a set of places in use, which is not empty, the one whose entry is the best under algorithm 2 or 3. Any number but 1 and 3 goes as 2.
+pub fn preferred(t: &[u32], set: u64, algorithm: u8) -> usize
+    requires { ⌜ Valid (now t) × (set ≡ 0 → ⊥) × (set < 2 ^ length (tableIn (now t) .entries)) × (algorithm ≡ 1 → ⊥) ⌝ }
+    ensures { λ r. ⌜ (r < length (tableIn (now (t .entry)) .entries)) × (getD (tableIn (now (t .entry)) .entries) r noEntry ≡ bestOf (better algorithm 0) noEntry (entriesAt (tableIn (now (t .entry)) .entries) (places set))) ⌝ }
+{
+    if algorithm == 3 {
+        return best_under(t, set, 3, 0);
+    }
+    best_under(t, set, 2, 0)
+}
+
+// Of a set of places in use, which is not empty, the one whose entry is the best under algorithm 1, 2 or 3.
+pub fn best(t: &[u32], set: u64, algorithm: u8, digest: u32) -> usize
     requires { ⌜ Valid (now t) × (set ≡ 0 → ⊥) × (set < 2 ^ length (tableIn (now t) .entries)) ⌝ }
+    ensures { λ r. ⌜ (r < length (tableIn (now (t .entry)) .entries)) × (getD (tableIn (now (t .entry)) .entries) r noEntry ≡ bestOf (better algorithm digest) noEntry (entriesAt (tableIn (now (t .entry)) .entries) (places set))) ⌝ }
+{
+    if algorithm == 1 {
+        return best_under(t, set, 1, digest);
+    }
+    preferred(t, set, algorithm)
+}
+
+// Of a set of n places in use, which is not empty, the one that is elected for a tag: under algorithm 0 the one at tag mod n, else the best.
+pub fn elected_place(t: &[u32], set: u64, n: u32, algorithm: u8, tag: u32, digest: u32) -> usize
+    requires { ⌜ Valid (now t) × (set ≡ 0 → ⊥) × (set < 2 ^ length (tableIn (now t) .entries)) × (n ≡ length (places set)) ⌝ }
     ensures { λ r. ⌜ (r < length (tableIn (now (t .entry)) .entries)) × (getD (tableIn (now (t .entry)) .entries) r noEntry ≡ elected algorithm tag digest (entriesAt (tableIn (now (t .entry)) .entries) (places set))) ⌝ }
 {
     if algorithm == 0 {
-        let n = places::count(set);
         return place_runs::nth(set, tag % n);
     }
     best(t, set, algorithm, digest)

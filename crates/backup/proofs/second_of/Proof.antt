@@ -15,28 +15,37 @@ module _ (start : tie.Start) where
   method = byTag (start .args .algorithm) (start .args .tag) (table .esi)
 
 place-by-tag-requires : tie.Need-place-by-tag-requires
-place-by-tag-requires c κs = let start = c .before in (start .pre .0, two-some _ (start .pre .1), start .pre .2)
+place-by-tag-requires c κs = let start = c .before .before in (start .pre .0, two-some _ (start .pre .1), start .pre .2, c .count .ensures .0)
+
+-- what is known once the first elected is taken out
+module _ (taken : tie.After-without) where
+  abbrev found : tie.After-place-by-tag
+  found = taken .before
+
+  abbrev from : tie.Start
+  from = found .before .before .before
 
 place-by-tag-requires-2 : tie.Need-place-by-tag-requires-2
 place-by-tag-requires-2 c κs =
-    let found = c .before in
-    let start = found .before .before in
+    let taken = c .before in
+    let start = from taken in
     let t = table start in
-    let w = start .pre .0 .sound in (
+    let w = start .pre .0 .sound in
+    let first = found taken .place-by-tag .ensures in (
       start .pre .0,
-      rest-some (t .entries) (w .short) (w .rising) (method start) _ _ (start .pre .1) (start .pre .2) _ (found .place-by-tag .ensures) _ (c .without .ensures),
-      rest-under (t .entries) (w .short) (w .rising) (method start) _ _ (start .pre .1) (start .pre .2) _ (found .place-by-tag .ensures) _ (c .without .ensures),
+      rest-some (t .entries) (w .short) (w .rising) (method start) _ _ (start .pre .1) (start .pre .2) _ first _ (taken .without .ensures),
+      rest-under (t .entries) (w .short) (w .rising) (method start) _ _ (start .pre .1) (start .pre .2) _ first _ (taken .without .ensures),
+      c .count2 .ensures .0,
     )
 
 returns : tie.Need-returns
 returns c =
-    let taken = c .before in
-    let found = taken .before in
-    let start = found .before .before in
+    let taken = c .before .before in
+    let start = from taken in
     let t = table start in
     let w = start .pre .0 .sound in
-    second-at (t .entries) (w .short) (w .rising) (method start) _ _ (start .pre .1) (start .pre .2) _ (found .place-by-tag .ensures) _ (taken .without .ensures)
+    second-at (t .entries) (w .short) (w .rising) (method start) _ _ (start .pre .1) (start .pre .2) _ (found taken .place-by-tag .ensures) _ (taken .without .ensures)
     _ (c .place-by-tag2 .ensures)
 
 pub second-of-spec : {M : Type 1} → statement M
-second-of-spec = tie.close (tie.spec place-by-tag-requires (λ c κs. search needs) place-by-tag-requires-2 returns)
+second-of-spec = tie.close (tie.spec (λ c κs. search needs) place-by-tag-requires (λ c κs. search needs) (λ c κs. search needs) place-by-tag-requires-2 returns)

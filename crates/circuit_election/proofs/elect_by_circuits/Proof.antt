@@ -73,21 +73,22 @@ returns-2 c =
     rw (c .refusal2 .ensures) (e .0, (e .1, (e .2, (e .3, not-long start e))))
 
 plain-algorithm-requires : tie.Need-plain-algorithm-requires
-plain-algorithm-requires c κs = let j = c .before in (from j .pre .1, free j)
+plain-algorithm-requires c κs = let j = c .before .before in (from j .pre .1, free j)
 
 place-by-tag-requires : tie.Need-place-by-tag-requires
 place-by-tag-requires c κs =
-    let tested = c .before in
+    let counted = c .before in
+    let tested = counted .before in
     let j = tested .before in
     let start = from j in
-    (start .pre .0, tested .if2 .left, set-in-use (table start) (start .pre .0 .sound) _ (list start) _ (j .circuit-candidates .ensures))
+    (start .pre .0, tested .if2 .left, set-in-use (table start) (start .pre .0 .sound) _ (list start) _ (j .circuit-candidates .ensures), counted .count .ensures .0)
 
 returns-3 : tie.Need-returns-3
 unfolding electOver rightLengths agreedOn numberFor
 returns-3 c =
     let placed = c .before in
     let chosen = placed .before in
-    let tested = chosen .before in
+    let tested = chosen .before .before in
     let j = tested .before in
     let start = from j in
     let e = elects-tag (settings start) plain (table start) (start .pre .0 .sound) (start .args .tag) (list start) _ (j .before .in-use .ensures)
@@ -106,6 +107,7 @@ elect-by-circuits-spec =
     (λ c κs. search needs)
     (λ c κs. search needs)
     returns-2
+    (λ c κs. search needs)
     plain-algorithm-requires
     place-by-tag-requires
     (λ c κs. search needs)

@@ -1,5 +1,5 @@
 -- `elect_query` meets its contract: the checks in their order, and then the answer for the candidate set, by the flow or by the tag. Assumes nothing.
-use Prim.Native.Nat.{ℕ, _≤_}
+use Prim.Native.Nat.{ℕ, _^_, _≤_, _<_}
 use mathlib.Core.Path.{_≡_, _∙_, sym}
 use mathlib.Core.Bool.{true, false}
 use mathlib.Core.List.{List, _++_}
@@ -79,47 +79,47 @@ returns-4 c q n g f =
     (elects-12 (settings start) q (table start) (start .pre .0 .sound) (start .args .tag) (list start) _ (j .before .in-use .ensures)
     (free (right j .before .before)) (short (right j .before)) (g ∙ not-false _ (right j .if3 .left)) _ (j .candidate-set .ensures) (c .before .if4 .taken))
 
+-- what is known once the candidates are counted
+module _ (k : tie.After-count) where
+  abbrev found : tie.After-candidate-set
+  found = k .before .before
+
+  abbrev asked : tie.Start
+  asked = begun found
+
+  places-in-use : found .candidate-set .result < 2 ^ length (table asked .entries)
+  places-in-use = set-in-use (table asked) (asked .pre .0 .sound) _ (list asked) _ (found .candidate-set .ensures)
+
 place-by-flow-requires : tie.Need-place-by-flow-requires
-place-by-flow-requires c κs =
-    let tested = c .before .before in
-    let j = tested .before in
-    let start = begun j in
-    (start .pre .0, tested .if4 .left, set-in-use (table start) (start .pre .0 .sound) _ (list start) _ (j .candidate-set .ensures))
+place-by-flow-requires c κs = let k = c .before .before in (asked k .pre .0, k .before .if4 .left, places-in-use k)
 
 returns-5 : tie.Need-returns-5
 returns-5 c q n g f =
     let placed = c .before in
     let agreed = placed .before .before in
-    let tested = agreed .before in
-    let j = tested .before in
+    let k = agreed .before in
+    let j = found k in
     let start = begun j in
     elects-flow (settings start) q (table start) (start .pre .0 .sound) (start .args .tag) (list start) _ (j .before .in-use .ensures)
-    (free (right j .before .before)) (short (right j .before)) (g ∙ not-false _ (right j .if3 .left)) _ (j .candidate-set .ensures) _ (tested .if4 .left)
+    (free (right j .before .before)) (short (right j .before)) (g ∙ not-false _ (right j .if3 .left)) _ (j .candidate-set .ensures) _ (k .before .if4 .left)
     _ _ n f (sym (agreed .agreed-on .ensures) ∙ placed .before .if5 .taken) (placed .place-by-flow .ensures) (c .named .ensures)
 
 plain-algorithm-requires : tie.Need-plain-algorithm-requires
-plain-algorithm-requires c κs =
-    let tested = c .before .before in
-    let j = tested .before in
-    (begun j .pre .1, free (right j .before .before))
+plain-algorithm-requires c κs = let j = found (c .before .before) in (begun j .pre .1, free (right j .before .before))
 
 place-by-tag-requires : tie.Need-place-by-tag-requires
-place-by-tag-requires c κs =
-    let tested = c .before .before .before in
-    let j = tested .before in
-    let start = begun j in
-    (start .pre .0, tested .if4 .left, set-in-use (table start) (start .pre .0 .sound) _ (list start) _ (j .candidate-set .ensures))
+place-by-tag-requires c κs = let k = c .before .before .before in (asked k .pre .0, k .before .if4 .left, places-in-use k, k .count .ensures .0)
 
 returns-6 : tie.Need-returns-6
 returns-6 c q n g f =
     let placed = c .before in
     let chosen = placed .before in
     let agreed = chosen .before .before in
-    let tested = agreed .before in
-    let j = tested .before in
+    let k = agreed .before in
+    let j = found k in
     let start = begun j in
     elects-tag (settings start) q (table start) (start .pre .0 .sound) (start .args .tag) (list start) _ (j .before .in-use .ensures)
-    (free (right j .before .before)) (short (right j .before)) (g ∙ not-false _ (right j .if3 .left)) _ (j .candidate-set .ensures) _ (tested .if4 .left)
+    (free (right j .before .before)) (short (right j .before)) (g ∙ not-false _ (right j .if3 .left)) _ (j .candidate-set .ensures) _ (k .before .if4 .left)
     _ _ n (sym (agreed .agreed-on .ensures) ∙ chosen .before .if5 .left) (chosen .plain-algorithm .ensures) (placed .place-by-tag .ensures) (c .named2 .ensures)
 
 pub elect-query-spec : {M : Type 1} → statement M
@@ -137,6 +137,7 @@ elect-query-spec =
     (λ c κs. search needs)
     (λ c κs. search needs)
     returns-4
+    (λ c κs. search needs)
     (λ c κs. search needs)
     place-by-flow-requires
     (λ c κs. search needs)
