@@ -8,10 +8,10 @@ use crate::answer::{
 use crate::dumps;
 use std::{ptr, slice};
 
-/// 64 rows of five words, the family and the address; 64 words of attributes; the count; the ten octets of the identifier. Then the algorithm numbers set
+/// 64 rows of five words, the family and the address; 64 words of attributes; the count; the ten octets of the identifier in three words, the first octet low. Then the algorithm numbers set
 /// for (S,G) and for (*,G), or zeros. Then the ranges of tags: how many there are, and 16 rows of three words, the first tag, the last and 2 or 3;
 /// and 17 such rows once more, in falling order.
-pub const WORDS: usize = 395 + 2 + 49 + 51;
+pub const WORDS: usize = 388 + 2 + 49 + 51;
 
 /// The words of a segment, its table and its settings. Only the calls below write them, so they are always those of a segment that the calls made: their premise.
 pub struct Table([u32; WORDS]);

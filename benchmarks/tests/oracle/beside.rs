@@ -35,13 +35,18 @@ fn laid_out(table: &Table) -> Vec<u32> {
     let count = attributes.len() as u32;
     rows.resize(ROWS * ROW, 0);
     attributes.resize(ROWS, 0);
-    let esi = table.esi().iter().map(|octet| u32::from(*octet));
+    let esi = table.esi().chunks(4).map(low_first);
     let set = numbers(table).map(u32::from);
     let all = rows.into_iter().chain(attributes).chain([count]);
     let mut all: Vec<u32> = all.chain(esi).chain(set).collect();
     all.extend(ranges(table));
     all.extend(falling_ranges(table));
     all
+}
+
+/// Up to four octets as one word, the first low.
+fn low_first(octets: &[u8]) -> u32 {
+    octets.iter().rev().fold(0, |word, octet| word << 8 | u32::from(*octet))
 }
 
 /// The words of the ranges: how many they are, and 16 rows, in the order in which they were handed in.

@@ -3,10 +3,11 @@ use Prim.Native.Nat.{ℕ, _+_, _*_, _/_, _%_, _≤_, _<_}
 use native.Mathlib.Numerals.{add-one}
 use native.Mathlib.Omega.{arith}
 use mathlib.Core.Path.{_≡_, refl, ap, ap₂, _∙_, sym}
-use mathlib.Core.Bool.{Bool, true, false, cond, _&&_, Bool·beq, and-false, and-true, or-false}
+use mathlib.Core.Bool.{Bool, true, false, cond, _&&_, Bool·beq, and-false, and-true, and-assoc, or-false}
 use mathlib.Core.List.{List, [], _∷_}
 use lib.ListN.{length, getD, drop, drop-of-length-le}
 use lib.Seq.{drop-cons}
+use lib.Bits.{bitOr, bitXor, xor-self, or-zero-r, or-add-and, xor-add-and, and-le-l, and-le-r}
 use lib.Dec.{ltb, eqb}
 use borrow.Author.Tests.{lt-ltb, le-ltb, eq-eqb, ne-eqb}
 use Rattle.lists.specs.Lists.{all, bit}
@@ -27,18 +28,25 @@ module _ (k : ℕ) (es : List Entry) where
   unfolding allOfKind all
   kind-step i h = rw (add-one, drop-cons es i noEntry h)
 
-  module _ (i : ℕ) (h : i < length es) (b : Bool) (q : (b && allOfKind k (drop i es)) ≡ allOfKind k es) where
-    pub kind-other : (kindOf (getD es i noEntry) ≡ k → ⊥) → (false && allOfKind k (drop (i + 1) es)) ≡ allOfKind k es
-    kind-other n = sym (ap (b &&_) (kind-step i h ∙ rw (ne-eqb _ k n)) ∙ and-false b) ∙ q
-
-    pub kind-same : kindOf (getD es i noEntry) ≡ k → (b && allOfKind k (drop (i + 1) es)) ≡ allOfKind k es
-    kind-same e = sym (ap (b &&_) (kind-step i h ∙ rw (eq-eqb _ k e))) ∙ q
+  pub kind-next : (i : ℕ) → i < length es → (b : Bool) → (b && allOfKind k (drop i es)) ≡ allOfKind k es
+      → ((b && eqb (kindOf (getD es i noEntry)) k) && allOfKind k (drop (i + 1) es)) ≡ allOfKind k es
+  kind-next i h b q = and-assoc b (eqb (kindOf (getD es i noEntry)) k) (allOfKind k (drop (i + 1) es)) ∙ sym (ap (b &&_) (kind-step i h)) ∙ q
 
   pub kind-end : (i : ℕ) (b : Bool) → length es ≤ i → (b && allOfKind k (drop i es)) ≡ allOfKind k es → b ≡ allOfKind k es
   unfolding allOfKind all
   kind-end i b h q = sym (ap (λ (l : List Entry). b && allOfKind k l) (drop-of-length-le es {i = i} h) ∙ and-true b) ∙ q
 
 -- A KIND is an algorithm and an AC-DF bit
+-- nothing differs so far, and not here: a number that differs leaves a bit
+pub differ-step : (d x k : ℕ) → eqb (bitOr d (bitXor x k)) 0 ≡ (eqb d 0 && eqb x k)
+differ-step d x k =
+    let a = bitXor x k in
+    whether x k
+    (λ e. let z : bitXor x k ≡ 0 = ap (λ (y : ℕ). bitXor y k) e ∙ xor-self k in rw (z, or-zero-r d, eq-eqb x k e) (sym (and-true (eqb d 0))))
+    (λ n.
+    rw (ne-eqb x k n, ne-eqb (bitOr d a) 0 (λ z. n (omega (arith, z, or-add-and d a, and-le-l d a, xor-add-and x k, and-le-l x k, and-le-r x k))))
+    (sym (and-false (eqb d 0))))
+
 kind-same-bit : (x a n : ℕ) → eqb (x * 2 + n) (a * 2 + n) ≡ (eqb x a && true)
 kind-same-bit x a n =
     whether x a

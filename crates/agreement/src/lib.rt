@@ -17,21 +17,19 @@ const FALLBACK: InUse = InUse {
     ac_df: false,
 };
 
-// Whether all entries are of one kind. All of them are looked at, which the compiler makes several looks at once.
+// Whether all entries are of one kind. All of them are looked at, which the compiler makes several looks at once: what differs anywhere leaves a bit in `differ`.
 fn all_of_kind(t: &[u32], kind: u32) -> bool
     requires { ⌜ Valid (now t) ⌝ }
     ensures { λ r. ⌜ r ≡ allOfKind kind (tableIn (now (t .entry)) .entries) ⌝ }
 {
     let n = layout::count(t);
-    let mut same = true;
+    let mut differ = 0;
     let mut i = 0;
     while i < n {
-        if layout::kind_at(t, i) != kind {
-            same = false;
-        }
+        differ = differ | (layout::kind_at(t, i) ^ kind);
         i += 1;
     }
-    same
+    differ == 0
 }
 
 // Whether all routes may agree on an algorithm: 0 to 3, or a number that is set.
