@@ -3,22 +3,25 @@ use Prim.Native.Nat.{ℕ, zero, suc, _+_, _*_, _/_, _%_, _^_, _≤_, _<_}
 use native.Mathlib.Nat.{pow-succ', one-le-pow, mul-le-mul-right}
 use native.Mathlib.Omega.{arith}
 use mathlib.Core.Path.{_≡_, refl, ap, ap₂, _∙_, sym}
-use mathlib.Core.Bool.{Bool, _&&_, and-true, and-assoc}
+use mathlib.Core.Bool.{Bool, false, _&&_, and-true, and-assoc}
 use mathlib.Core.List.{List, [], _∷_, _++_}
-use lib.ListN.{length, getD, drop, length-append}
+use mathlib.Core.Logic.{inl, inr}
+use lib.ListN.{length, getD, take, drop, length-append}
+use lib.Seq.{take-suc, drop-cons}
 use lib.Pow.{pow-add}
 use lib.Dec.{eqb}
 use lib.Arith.{digits-div, digits-mod}
 use borrow.Author.Tests.{ne-eqb}
 use Rattle.lists.specs.Lists.{all}
+use Rattle.lists.proofs.Bools.{true-false}
 use Rattle.octets.specs.Octets.{numberOf, octetsOf, allAre}
 use Rattle.octets.proofs.Laws.{length-octets, number-octets-small, number-append, four-octets}
 use Rattle.rows.specs.Rows.{rowKey}
-use Rattle.rows.proofs.Compared.{Words, key-lt}
+use Rattle.rows.proofs.Compared.{Words, key-lt, key-less, is-less, order-less, order-one}
 use Rattle.address.specs.declared.Family.{Family}
 use Rattle.address.specs.declared.Family.the-variants.{V4, V6}
 use Rattle.address.specs.declared.Address.{Address}
-use Rattle.address.specs.Address.{rowUnder, addressRow, IsAddress, ipv4, ipv6, octetsIn, familyOf, octetsOfAddress, addressKey, SeventeenOctets, isZero}
+use Rattle.address.specs.Address.{rowUnder, addressRow, IsAddress, ipv4, ipv6, octetsIn, familyOf, octetsOfAddress, addressKey, SeventeenOctets, isZero, listedIn, NamesAddress}
 
 abbrev base : ℕ
 base = 4294967296
@@ -120,6 +123,16 @@ pub words-after : (r : List ℕ) → IsAddress r → getD r 1 0 ∷ getD r 2 0 �
 words-after r (ipv4 a e) = rw e
 words-after r (ipv6 a b c d e) = rw e
 
+-- the family of an address is 4 or 6
+pub names-address : (r : List ℕ) → IsAddress r → NamesAddress r
+names-address r (ipv4 a e) = inl (ap (λ (s : List ℕ). getD s 0 0) e)
+names-address r (ipv6 a b c d e) = inr (ap (λ (s : List ℕ). getD s 0 0) e)
+
+-- an IPv4 address is its family, its first word and zeros
+pub tail-four : (r : List ℕ) → IsAddress r → getD r 0 0 ≡ 4 → drop 2 r ≡ 0 ∷ 0 ∷ 0 ∷ []
+tail-four r (ipv4 a e) f = rw e
+tail-four r (ipv6 a b c d e) f = let n = rw e at f in absurd (omega arith)
+
 -- what is handed in is an address
 pub row-address : (a : Address) → IsAddress (addressRow a)
 unfolding addressRow
@@ -147,6 +160,45 @@ pub key-above : (r : List ℕ) → IsAddress r → 1 ≤ addressKey r
 key-above r (ipv4 a e) = rw e (key-head 4 (a ∷ 0 ∷ 0 ∷ 0 ∷ []) (omega arith))
 key-above r (ipv6 a b c d e) = rw e (key-head 6 (a ∷ b ∷ c ∷ d ∷ []) (omega arith))
 
+-- 0.0.0.0 is below every address that is not zero
+pub zero-lowest : (r : List ℕ) → IsAddress r → isZero r ≡ false → addressKey (4 ∷ 0 ∷ 0 ∷ 0 ∷ 0 ∷ []) < addressKey r
+unfolding addressKey isZero allAre all
+zero-lowest r (ipv4 a e) z = rw e (is-less _ _ (order-one 4 0 a (0 ∷ 0 ∷ 0 ∷ []) ∙ order-less (above a (rw e at z))))
+  where
+    above : (n : ℕ) → allAre 0 (n ∷ 0 ∷ 0 ∷ 0 ∷ []) ≡ false → 0 < n
+    above zero h = absurd (true-false refl h)
+    above (suc n) h = omega arith
+zero-lowest r (ipv6 a b c d e) z = rw e (key-less 4 6 (0 ∷ 0 ∷ 0 ∷ 0 ∷ []) (a ∷ b ∷ c ∷ d ∷ []) refl (omega arith) (words-four 0 0 0 0 (omega arith) (omega arith) (omega arith) (omega arith)))
+
 pub key-row : (r : List ℕ) → rowKey r ≡ addressKey r
 unfolding addressKey
 key-row r = refl
+
+-- ---- a row of a ready list
+
+module _ (r : List ℕ) where
+  pub listed-four : getD r 0 0 ≡ 4 → 4 ∷ getD r 1 0 ∷ 0 ∷ 0 ∷ 0 ∷ [] ≡ listedIn r
+  unfolding listedIn
+  listed-four e = rw e
+
+  pub listed-six : getD r 0 0 ≡ 6 → 6 ∷ getD r 1 0 ∷ getD r 2 0 ∷ getD r 3 0 ∷ getD r 4 0 ∷ [] ≡ listedIn r
+  unfolding listedIn
+  listed-six e = rw e
+
+  pub listed-neither : (getD r 0 0 ≡ 4 → ⊥) → (getD r 0 0 ≡ 6 → ⊥) → 4 ∷ 0 ∷ 0 ∷ 0 ∷ 0 ∷ [] ≡ listedIn r
+  unfolding listedIn
+  listed-neither m n = rw (ne-eqb _ 4 m, ne-eqb _ 6 n)
+
+  -- it is in two parts, of which the first is as it stands in the list
+  module _ (n : length r ≡ 5) where
+    head : take 2 r ≡ getD r 0 0 ∷ getD r 1 0 ∷ []
+    head = rw (take-suc r 1 0 (omega arith), take-suc r 0 0 (omega arith))
+
+    rest : take 3 (drop 2 r) ≡ getD r 2 0 ∷ getD r 3 0 ∷ getD r 4 0 ∷ []
+    rest = rw (drop-cons r 2 0 (omega arith), drop-cons r 3 0 (omega arith), drop-cons r 4 0 (omega arith))
+
+    pub parts-four : getD r 0 0 ≡ 4 → listedIn r ≡ take 2 r ++ (0 ∷ 0 ∷ 0 ∷ [])
+    parts-four e = sym (listed-four e) ∙ rw (head, e)
+
+    pub parts-six : getD r 0 0 ≡ 6 → listedIn r ≡ take 2 r ++ take 3 (drop 2 r)
+    parts-six e = sym (listed-six e) ∙ rw (head, rest, e)

@@ -10,10 +10,14 @@
 --   SeventeenOctets r  == that
 --   addressNumber r    == the address r as a number of 32 or of 128 bits, by its family
 --   isZero r           == whether the address r is all zero
+--   listedIn r         == the address that a row of a ready list names: in an IPv4 row the words after the first don't count; a row of another family names
+--                         address zero, which stands in no table
+--   NamesAddress r     == the family of the row r is 4 or 6
 use Prim.Native.Nat.{ℕ}
 use mathlib.Core.Path.{_≡_}
 use mathlib.Core.Bool.{Bool, cond}
 use mathlib.Core.List.{List, [], _∷_, _++_}
+use mathlib.Core.Logic.{_⊎_}
 use lib.ListN.{getD, drop}
 use lib.Dec.{eqb}
 use Rattle.octets.specs.Octets.{numberOf, octetsOf, allAre}
@@ -57,3 +61,12 @@ addressNumber r = cond (eqb (familyOf r) 4) (getD r 1 0) (rowKey (drop 1 r))
 
 unfoldable pub isZero : List ℕ → Bool
 isZero r = allAre 0 (drop 1 r)
+
+unfoldable pub listedIn : List ℕ → List ℕ
+listedIn r =
+    cond (eqb (getD r 0 0) 4) (4 ∷ getD r 1 0 ∷ 0 ∷ 0 ∷ 0 ∷ [])
+    (cond (eqb (getD r 0 0) 6) (6 ∷ getD r 1 0 ∷ getD r 2 0 ∷ getD r 3 0 ∷ getD r 4 0 ∷ [])
+    (4 ∷ 0 ∷ 0 ∷ 0 ∷ 0 ∷ []))
+
+abbrev pub NamesAddress : List ℕ → Type 0
+NamesAddress r = (getD r 0 0 ≡ 4) ⊎ (getD r 0 0 ≡ 6)

@@ -1,13 +1,12 @@
 -- A route at a place: its row is compared in two parts, the kind and the tag, and the address; a route that stands at a place stands. Assumes nothing.
 use Prim.Native.Nat.{ℕ, _+_, _*_, _^_, _≤_, _<_}
-use native.Mathlib.Nat.{add-mul, suc-mul, zero-mul, mul-assoc, mul-le-mul-right}
+use native.Mathlib.Nat.{suc-mul, mul-le-mul-right}
 use native.Mathlib.Omega.{arith}
 use mathlib.Core.Path.{_≡_, refl, ap, ap₂, _∙_, sym}
 use mathlib.Core.Bool.{Bool, true, false, not, _&&_}
 use mathlib.Core.List.{List, [], _∷_, _++_}
-use lib.ListN.{length, getD, take, drop, length-append, length-drop}
+use lib.ListN.{length, getD, take, drop, length-drop}
 use lib.Seq.{take-add, drop-drop, length-take-le}
-use lib.Pow.{pow-add}
 use lib.Dec.{ltb, eqb}
 use borrow.Author.Tests.{not-true, not-false, ltb-true, eqb-true, lt-ltb, le-ltb, eq-eqb, ne-eqb}
 use Rattle.lists.proofs.Bools.{true-false}
@@ -16,7 +15,7 @@ use Rattle.address.specs.Address.{IsAddress, ipv4, ipv6}
 use Rattle.address.proofs.Laws.{length-address}
 use Rattle.rows.specs.Rows.{rowKey, keyOrder}
 use Rattle.rows.specs.declared.Order.the-variants.{Less, Equal, Greater}
-use Rattle.rows.proofs.Compared.{is-less, is-same, is-more, Words, words-part, key-lt}
+use Rattle.rows.proofs.Compared.{is-less, is-same, is-more, Words, words-part, key-lt, key-append}
 use Rattle.rows.proofs.Places.{found-at, look-here}
 use Rattle.circuit_layout.specs.Circuits.{perSegment, perInstance, circuitsIn, ValidCircuits}
 use Rattle.circuit_layout.proofs.Words.{length-valid, short, route-row}
@@ -43,15 +42,6 @@ pub told-more : (m n : ℕ) → keyOrder m n ≡ Greater → false ≡ eqb m n
 told-more m n h = sym (ne-eqb m n (λ e. omega (arith, is-more m n h)))
 
 -- KEYS IN TWO PARTS
-key-append : (a b : List ℕ) → rowKey (a ++ b) ≡ rowKey a * base ^ length b + rowKey b
-unfolding rowKey
-key-append [] b = omega (arith, zero-mul (base ^ length b))
-key-append (w ∷ a) b =
-    let p = base ^ length b in
-    let high : w * base ^ length (a ++ b) ≡ w * base ^ length a * p =
-    ap (λ (n : ℕ). w * base ^ n) (length-append a b) ∙ ap (λ (n : ℕ). w * n) (pow-add base (length a) (length b)) ∙ sym (mul-assoc w (base ^ length a) p) in
-    omega (arith, high, key-append a b, add-mul (w * base ^ length a) (rowKey a) p)
-
 -- two numbers with the low digits u and v are equal if the high ones are, and the low ones
 same-digits : (p m n u v : ℕ) → u < p → v < p → eqb (m * p + u) (n * p + v) ≡ (eqb m n && eqb u v)
 same-digits p m n u v h k =

@@ -1,25 +1,27 @@
--- What a search among the rows of a table says of its entries. Assumes nothing.
-use Prim.Native.Nat.{ℕ, _*_, _≤_, _<_}
+-- What a search among the rows of a table says of its entries, and how an entry stands to a row of a ready list. Assumes nothing.
+use Prim.Native.Nat.{ℕ, _+_, _*_, _≤_, _<_}
 use native.Mathlib.Omega.{arith}
 use mathlib.Core.Path.{_≡_, refl, ap, ap₂, sym, _∙_}
-use mathlib.Core.List.{List, [], _∷_, map}
-use lib.ListN.{length, length-map, getD, take, drop}
-use Rattle.lists.proofs.Lists.{getD-map-in}
-use Rattle.address.specs.declared.Address.{Address}
-use Rattle.address.specs.declared.Family.the-variants.{V4}
-use Rattle.address.specs.Address.{addressRow, addressKey, familyOf, addressWords, IsAddress, ipv4, ipv6}
-use Rattle.address.proofs.Laws.{key-row, length-address, words-four}
-use Rattle.keyed.specs.Keyed.{Rising}
+use mathlib.Core.Logic.{⊎-elim}
+use mathlib.Core.List.{List, [], _∷_, _++_, map}
+use lib.ListN.{length, length-map, length-drop, getD, take, drop, List·getD-append}
+use lib.Seq.{length-take-le, drop-at, take-add, drop-drop, getD-take}
+use Rattle.lists.proofs.Lists.{every-in, getD-map-in}
+use Rattle.lists.proofs.Numbers.{either}
+use Rattle.address.specs.Address.{addressKey, IsAddress, listedIn, NamesAddress}
+use Rattle.address.proofs.Laws.{words-four, key-row, key-injective, length-address, names-address, tail-four, zero-lowest, listed-neither, parts-four, parts-six}
+use Rattle.keyed.specs.Keyed.{Rising, rank}
 use Rattle.keyed.proofs.Keyed as keyed
 use Rattle.rows.specs.Rows.{rowsIn, rowKey, keyOrder, foundIn, Within, looksBetween, looksFor}
-use Rattle.rows.specs.declared.Order.the-variants.{Greater}
+use Rattle.rows.specs.declared.Order.{Order}
+use Rattle.rows.specs.declared.Order.the-variants.{Equal}
 use Rattle.rows.specs.declared.Found.{Found}
-use Rattle.rows.specs.declared.Found.the-variants.{At}
+use Rattle.rows.specs.declared.Found.the-variants.{At, Missing}
 use Rattle.rows.proofs.Looks.{few-looks, few-between, for-at, for-middle, left-none}
-use Rattle.rows.proofs.Compared.{order-more, key-less, order-one}
+use Rattle.rows.proofs.Compared.{Words, words-part, is-same, order-same, firstDifference, order-parts}
 use Rattle.rows.proofs.Outcomes.{within-all}
-use Rattle.rows.proofs.Places.{look-here}
-use Rattle.layout.specs.Table.{Entry, entryKey, noEntry}
+use Rattle.rows.proofs.Places.{look-here, look-more, look-none}
+use Rattle.layout.specs.Table.{Entry, entryKey, noEntry, AddressRight}
 use Rattle.layout.specs.Words.{tableIn, Valid}
 use Rattle.layout.proofs.Words.{length-valid, rows-addresses, rising-rows, address-row}
 
@@ -94,15 +96,123 @@ first-hit es m first r h q =
     let here : getD ks first 0 ≡ m = getD-map-in entryKey es first 0 noEntry h ∙ q in
     (look-here entryKey m es 1 noEntry r first h q, sym (ap length (for-at m ks first (omega (arith, n)) ∙ left-none m ks (length ks) 0 first (length ks) (omega arith) (omega (arith, n)) (omega arith) here)))
 
--- AN IPv4 ADDRESS a and an address r: the family decides, then the first word
-module _ (r : List ℕ) (a : Address) (v : a .family ≡ V4) where
-  pub above-ipv4 : IsAddress r → (familyOf r ≡ 4 → ⊥) → a .w0 < 4294967296 → Greater ≡ keyOrder (addressKey r) (addressKey (addressRow a))
-  unfolding familyOf addressRow addressKey
-  above-ipv4 (ipv4 x e) f w = absurd (f (ap (λ (l : List ℕ). getD l 0 0) e))
-  above-ipv4 (ipv6 x y z u e) f w =
-      rw (e, v) (sym (order-more (key-less 4 6 (a .w0 ∷ 0 ∷ 0 ∷ 0 ∷ []) (x ∷ y ∷ z ∷ u ∷ []) refl (omega arith) (words-four (a .w0) 0 0 0 w (omega arith) (omega arith) (omega arith)))))
+-- A ROW OF A READY LIST and the entry at a place
+pub record Beside (b : List ℕ) (i : ℕ) (row : List ℕ) : Type 0 where
+  pub valid : Valid b
+  pub used : i < length (tableIn b .entries)
+  pub words : Words b
+  pub five : length row ≡ 5
+  pub row-words : Words row
 
-  pub order-ipv4 : IsAddress r → familyOf r ≡ 4 → keyOrder (addressKey r) (addressKey (addressRow a)) ≡ keyOrder (getD (addressWords r) 0 0) (a .w0)
-  unfolding familyOf addressWords addressRow addressKey
-  order-ipv4 (ipv4 x e) f = rw (e, v) (order-one 4 x (a .w0) (0 ∷ 0 ∷ 0 ∷ []))
-  order-ipv4 (ipv6 x y z u e) f = let six : getD r 0 0 ≡ 6 = ap (λ (l : List ℕ). getD l 0 0) e in absurd (omega (arith, six, f))
+-- how the entry stands to the address that the row names
+abbrev asked : List ℕ → ℕ → List ℕ → Order
+asked b i row = keyOrder (entryKey (getD (tableIn b .entries) i noEntry)) (addressKey (listedIn row))
+
+-- the family and the first word are compared, then the three others
+module _ {b : List ℕ} {i : ℕ} {row : List ℕ} (k : Beside b i row) where
+  abbrev there : List ℕ
+  there = getD (tableIn b .entries) i noEntry .address
+
+  is-address : IsAddress there
+  is-address = every-in AddressRight (tableIn b .entries) i noEntry (k .valid .sound .addresses) (k .used) .0
+
+  inside : i * 5 + 5 ≤ length b
+  inside = omega (arith, k .used, k .valid .sound .short, length-valid b (k .valid))
+
+  -- the entry's two parts
+  abbrev first : List ℕ
+  first = take 2 (drop (i * 5) b)
+
+  abbrev rest : List ℕ
+  rest = take 3 (drop (i * 5 + 2) b)
+
+  parts : there ≡ first ++ rest
+  parts = sym (address-row b (k .valid) i (k .used)) ∙ take-add 2 3 (drop (i * 5) b) ∙ ap (λ (s : List ℕ). first ++ take 3 s) (drop-drop 2 (i * 5) b)
+
+  length-first : length first ≡ 2
+  length-first = length-take-le 2 (drop (i * 5) b) (simp length-drop (omega (arith, inside)))
+
+  length-rest : length rest ≡ 3
+  length-rest = length-take-le 3 (drop (i * 5 + 2) b) (simp length-drop (omega (arith, inside)))
+
+  -- the row's own two parts
+  length-head : length (take 2 row) ≡ 2
+  length-head = length-take-le 2 row (omega (arith, k .five))
+
+  length-tail : length (take 3 (drop 2 row)) ≡ 3
+  length-tail = length-take-le 3 (drop 2 row) (simp length-drop (omega (arith, k .five)))
+
+  pub head-fits : i * 5 + length (take 2 row) ≤ length b
+  head-fits = omega (arith, length-head, inside)
+
+  pub tail-fits : i * 5 + 2 + length (take 3 (drop 2 row)) ≤ length b
+  tail-fits = omega (arith, length-tail, inside)
+
+  module _ (head : Order) (told : head ≡ keyOrder (rowKey (take (length (take 2 row)) (drop (i * 5) b))) (rowKey (take 2 row))) where
+    plain : head ≡ keyOrder (rowKey first) (rowKey (take 2 row))
+    plain = told ∙ ap (λ (n : ℕ). keyOrder (rowKey (take n (drop (i * 5) b))) (rowKey (take 2 row))) length-head
+
+    -- where the address is the row's first part and the words `low`
+    by-parts : (low : List ℕ) → length low ≡ 3 → Words low → listedIn row ≡ take 2 row ++ low → asked b i row ≡ firstDifference head (keyOrder (rowKey rest) (rowKey low))
+    unfolding addressKey
+    by-parts low n w e =
+        ap₂ (λ (x y : List ℕ). keyOrder (rowKey x) (rowKey y)) parts e
+        ∙ order-parts first rest (take 2 row) low (length-rest ∙ sym n) (words-part 3 (i * 5 + 2) b (k .words)) w
+        ∙ ap (λ (x : Order). firstDifference x (keyOrder (rowKey rest) (rowKey low))) (sym plain)
+
+    by-four : getD row 0 0 ≡ 4 → asked b i row ≡ firstDifference head (keyOrder (rowKey rest) (rowKey (0 ∷ 0 ∷ 0 ∷ [])))
+    by-four f = by-parts (0 ∷ 0 ∷ 0 ∷ []) refl (words-part 3 0 (0 ∷ 0 ∷ 0 ∷ 0 ∷ []) (words-four 0 0 0 0 (omega arith) (omega arith) (omega arith) (omega arith))) (parts-four row (k .five) f)
+
+    by-six : getD row 0 0 ≡ 6 → asked b i row ≡ firstDifference head (keyOrder (rowKey rest) (rowKey (take 3 (drop 2 row))))
+    by-six f = by-parts (take 3 (drop 2 row)) length-tail (words-part 3 2 row (k .row-words)) (parts-six row (k .five) f)
+
+    -- a difference of the first part decides
+    pub head-decides : ((x : Order) → firstDifference head x ≡ head) → NamesAddress row → head ≡ asked b i row
+    head-decides d = ⊎-elim (λ f. sym (by-four f ∙ d _)) (λ f. sym (by-six f ∙ d _))
+
+    -- where there is none, the family is the entry's
+    module _ (same : head ≡ Equal) where
+      same-first : first ≡ take 2 row
+      same-first =
+          key-injective first (take 2 row) (length-first ∙ sym length-head) (words-part 2 (i * 5) b (k .words)) (words-part 2 0 row (k .row-words))
+          (sym (key-row first) ∙ is-same _ _ (sym plain ∙ same) ∙ key-row (take 2 row))
+
+      family : getD there 0 0 ≡ getD row 0 0
+      family =
+          ap (λ (s : List ℕ). getD s 0 0) parts
+          ∙ List·getD-append first rest 0 0 (omega (arith, length-first))
+          ∙ ap (λ (s : List ℕ). getD s 0 0) same-first
+          ∙ getD-take 2 row 0 0 (omega arith)
+
+      pub names : NamesAddress row
+      names = rw family at (names-address there is-address)
+
+      -- an IPv4 row: the entry has zeros after the first part
+      pub four-same : getD row 0 0 ≡ 4 → Equal ≡ asked b i row
+      four-same f =
+          let zeros : rest ≡ 0 ∷ 0 ∷ 0 ∷ [] = sym (ap (drop 2) parts ∙ drop-at first rest 2 length-first) ∙ tail-four there is-address (family ∙ f) in
+          sym (by-four f ∙ ap (λ (x : Order). firstDifference x (keyOrder (rowKey rest) (rowKey (0 ∷ 0 ∷ 0 ∷ [])))) same ∙ order-same (ap rowKey zeros))
+
+      -- an IPv6 row: the second part decides
+      pub six-rest : (getD row 0 0 ≡ 4 → ⊥) → (x : Order) → x ≡ keyOrder (rowKey (take (length (take 3 (drop 2 row))) (drop (i * 5 + 2) b))) (rowKey (take 3 (drop 2 row))) → x ≡ asked b i row
+      six-rest m x e =
+          ⊎-elim
+          (λ f. absurd (m f))
+          (λ f.
+          e
+          ∙ ap (λ (n : ℕ). keyOrder (rowKey (take n (drop (i * 5 + 2) b))) (rowKey (take 3 (drop 2 row)))) length-tail
+          ∙ sym (by-six f ∙ ap (λ (y : Order). firstDifference y (keyOrder (rowKey rest) (rowKey (take 3 (drop 2 row))))) same))
+          names
+
+-- A ROW OF ANOTHER FAMILY names address zero, which is below every entry
+pub stranger : (b row : List ℕ) → Valid b → (getD row 0 0 ≡ 4 → ⊥) → (getD row 0 0 ≡ 6 → ⊥) → Missing 0 ≡ foundIn entryKey (addressKey (listedIn row)) (tableIn b .entries)
+stranger b row h m n =
+    let es = tableIn b .entries in
+    let k = addressKey (listedIn row) in
+    let below : 0 < length es → k < entryKey (getD es 0 noEntry) =
+    λ l. let a = every-in AddressRight es 0 noEntry (h .sound .addresses) l in rw (← listed-neither row m n) (zero-lowest _ (a .0) (a .1)) in
+    let lowest : rank entryKey k es ≡ 0 =
+    either 0 (length es)
+    (λ l. omega (arith, look-more entryKey k es 1 noEntry (h .sound .rising) 0 l (below l)))
+    (λ l. omega (arith, keyed.rank-le entryKey k es)) in
+    look-none entryKey k es 1 noEntry (h .sound .rising) 0 lowest below

@@ -12,36 +12,66 @@ ghost use Prim.Native.Nat.{_≤_, _<_};
 ghost use lib.ListN.{length, getD, set};
 ghost use Rattle.keyed.specs.Keyed.{spliced, dropAt};
 ghost use Rattle.rows.specs.Rows.{keyOrder, foundIn, looksBetween, looksFor};
-ghost use Rattle.address.specs.Address.{addressRow, addressKey};
+ghost use Rattle.rows.specs.declared.Order.the-variants.{Equal};
+ghost use Rattle.address.specs.Address.{addressRow, addressKey, listedIn, NamesAddress};
 ghost use Rattle.layout.specs.Table.{entryKey, noEntry, tableOf};
 ghost use Rattle.layout.specs.Words.{entryIn, wordsOf, tableIn, Valid};
 
-// How the entry at a place stands to an address. For an IPv4 address its family and its first word tell: an IPv6 entry is above it, and the other words of an IPv4 entry
-// are zero.
-fn order_at(t: &[u32], at: usize, address: Address) -> Order
-    requires { ⌜ Valid (now t) × (at < length (tableIn (now t) .entries)) ⌝ }
-    ensures { λ r. ⌜ r ≡ keyOrder (entryKey (getD (tableIn (now (t .entry)) .entries) at noEntry)) (addressKey (addressRow address)) ⌝ }
+// How many words of an address's row, the family and the first of the address, are compared before the others.
+const HEAD: usize = 2;
+
+// The address that a row of a ready list names; address zero, which stands in no table, where the row's family is neither.
+fn listed(row: &[u32]) -> Address
+    requires { ⌜ length (now row) ≡ 5 ⌝ }
+    ensures { λ r. ⌜ addressRow r ≡ listedIn (now (row .entry)) ⌝ }
 {
-    let family = address.family;
-    match family {
-        Family::V4 => {
-            if layout::family_at(t, at) != 4 {
-                return Order::Greater;
-            }
-            let words = layout::words_at(t, at);
-            if words[0] == address.w0 {
+    let family = row[0];
+    if family == 4 {
+        return Address {
+            family: Family::V4,
+            w0: row[1],
+            w1: 0,
+            w2: 0,
+            w3: 0,
+        };
+    }
+    if family == 6 {
+        return Address {
+            family: Family::V6,
+            w0: row[1],
+            w1: row[2],
+            w2: row[3],
+            w3: row[4],
+        };
+    }
+    Address {
+        family: Family::V4,
+        w0: 0,
+        w1: 0,
+        w2: 0,
+        w3: 0,
+    }
+}
+
+// How the entry at a place stands to the address that a row of a ready list names, where the row's family is 4 or 6; no entry equals a row of another family. The family and the
+// first word decide, or all five words: in an IPv4 row the words after the first don't count, and an IPv4 entry has zeros there.
+fn order_at(t: &[u32], at: usize, row: &[u32]) -> Order
+    requires { ⌜ Valid (now t) × (at < length (tableIn (now t) .entries)) × (length (now row) ≡ 5) ⌝ }
+    ensures order { λ r. ⌜ (NamesAddress (now (row .entry)) → r ≡ keyOrder (entryKey (getD (tableIn (now (t .entry)) .entries) at noEntry)) (addressKey (listedIn (now (row .entry))))) ⌝ }
+    ensures named { λ r. ⌜ (r ≡ Equal → NamesAddress (now (row .entry))) ⌝ }
+{
+    let start = at * address::WIDTH;
+    let head = rows::compare(t, start, &row[0..HEAD]);
+    match head {
+        Order::Less => Order::Less,
+        Order::Equal => {
+            if row[0] == 4 {
                 return Order::Equal;
             }
-            if words[0] < address.w0 {
-                return Order::Less;
-            }
-            Order::Greater
+            let behind = start + HEAD;
+            rows::compare(t, behind, &row[HEAD..address::WIDTH])
         }
-        Family::V6 => {
-            let row = address::row(address);
-            let start = at * address::WIDTH;
-            rows::compare(t, start, &row)
-        }
+        Order::Greater => Order::Greater,
     }
 }
 
@@ -57,28 +87,48 @@ fn search(t: &[u32], address: Address) -> Lookup
     rows::search_between(t, n, 0, n, 0, &row)
 }
 
-// Looks an address up near a place. The first look is at the entry at the place `first`: where it is that of the address, as in a list that rises as the table does, this
-// look is all; else the search goes on from its outcome. Where `first` is no place in use the first look is in the middle. No entry is compared twice.
-pub fn lookup(t: &[u32], first: usize, address: Address) -> Lookup
-    requires { ⌜ Valid (now t) ⌝ }
-    ensures found { λ r. ⌜ r .found ≡ foundIn entryKey (addressKey (addressRow address)) (tableIn (now (t .entry)) .entries) ⌝ }
-    ensures looks { λ r. ⌜ r .looks ≡ length (looksFor first (addressKey (addressRow address)) (map entryKey (tableIn (now (t .entry)) .entries))) ⌝ }
+// Goes on from a look at the place `first` for the address of a row of a ready list, with the outcome `order`. The row is made into an address only here; one whose family is
+// neither 4 nor 6 names none that could stand.
+fn after_first(t: &[u32], first: usize, order: Order, row: &[u32]) -> Lookup
+    requires { ⌜ Valid (now t) × (first < length (tableIn (now t) .entries)) × (length (now row) ≡ 5) × (NamesAddress (now row) → order ≡ keyOrder (entryKey (getD (tableIn (now t) .entries) first noEntry)) (addressKey (listedIn (now row)))) ⌝ }
+    ensures found { λ r. ⌜ r .found ≡ foundIn entryKey (addressKey (listedIn (now (row .entry)))) (tableIn (now (t .entry)) .entries) ⌝ }
+    ensures looks { λ r. ⌜ (NamesAddress (now (row .entry)) → r .looks ≡ length (looksFor first (addressKey (listedIn (now (row .entry)))) (map entryKey (tableIn (now (t .entry)) .entries)))) ⌝ }
+    ensures few { λ r. ⌜ r .looks ≤ 7 ⌝ }
+{
+    let family = row[0];
+    if family == 4 || family == 6 {
+        let n = layout::count(t);
+        let address = listed(row);
+        let key = address::row(address);
+        return rows::after_look(t, n, first, order, &key);
+    }
+    Lookup {
+        found: Found::Missing(0),
+        looks: 1,
+    }
+}
+
+// Looks the address of a row of a ready list up near a place. The first look is at the entry at the place `first`, word by word as the row stands in the list: where it is that
+// of the address, as in a list that rises as the table does, this look is all; else the search goes on from its outcome. Where `first` is no place in use the first look
+// is in the middle. No entry is compared twice.
+pub fn lookup(t: &[u32], first: usize, row: &[u32]) -> Lookup
+    requires { ⌜ Valid (now t) × (length (now row) ≡ 5) ⌝ }
+    ensures found { λ r. ⌜ r .found ≡ foundIn entryKey (addressKey (listedIn (now (row .entry)))) (tableIn (now (t .entry)) .entries) ⌝ }
+    ensures looks { λ r. ⌜ (NamesAddress (now (row .entry)) → r .looks ≡ length (looksFor first (addressKey (listedIn (now (row .entry)))) (map entryKey (tableIn (now (t .entry)) .entries)))) ⌝ }
     ensures few { λ r. ⌜ r .looks ≤ 7 ⌝ }
 {
     let n = layout::count(t);
     if n <= first {
+        let address = listed(row);
         return search(t, address);
     }
-    let order = order_at(t, first, address);
+    let order = order_at(t, first, row);
     match order {
         Order::Equal => Lookup {
             found: Found::At(first),
             looks: 1,
         },
-        _ => {
-            let row = address::row(address);
-            rows::after_look(t, n, first, order, &row)
-        }
+        _ => after_first(t, first, order, row),
     }
 }
 

@@ -8,7 +8,8 @@ use lib.ListN.{length}
 use Rattle.lists.specs.Lists.{Every}
 use Rattle.rows.specs.Rows.{rowsIn, flat}
 use Rattle.rows.proofs.Columns.{Wide, length-flat, rows-flat}
-use Rattle.ready.specs.Ready.{listedIn, readyIn}
+use Rattle.address.specs.Address.{listedIn}
+use Rattle.ready.specs.Ready.{readyIn}
 use Rattle.payloads.specs.Payloads.{sizeOf, addressOf, addressesIn}
 
 width : (v : Bool) (p : List ℕ) → length (addressOf v p) ≡ 5

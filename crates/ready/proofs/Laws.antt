@@ -1,18 +1,18 @@
 -- The set of places whose address is on a ready list, address by address, and the candidate set. Assumes nothing.
-use Prim.Native.Nat.{ℕ, suc, _+_, _*_, _/_, _≤_, _<_, min}
+use Prim.Native.Nat.{ℕ, suc, _+_, _-_, _*_, _/_, _≤_, _<_, min}
 use native.Mathlib.Nat.{le-of-suc-le-suc, not-suc-le-zero}
 use native.Mathlib.Numerals.{add-one}
 use native.Mathlib.Omega.{arith}
 use mathlib.Core.Path.{_≡_, refl, ap, ap₂, _∙_, sym}
 use mathlib.Core.Bool.{Bool, true, false, _||_, or-assoc, or-false, or-true}
 use mathlib.Core.List.{List, [], _∷_, _++_, map}
-use lib.ListN.{length, getD, set, take, drop, replicate, length-map}
-use lib.Seq.{take-suc, getD-take, getD-drop}
+use lib.ListN.{length, getD, set, take, drop, replicate, length-map, length-drop}
+use lib.Seq.{length-take-le, take-suc}
 use lib.Dec.{eqb}
 use borrow.Author.Tests.{eq-eqb, ne-eqb, eqb-false, lt-ltb, le-ltb}
 use Rattle.lists.proofs.Bools.{or-left, or-right}
 use Rattle.lists.proofs.Numbers.{either}
-use Rattle.address.specs.Address.{addressKey}
+use Rattle.address.specs.Address.{addressKey, listedIn}
 use Rattle.keyed.specs.Keyed.{Rising, has, rank}
 use Rattle.keyed.proofs.Keyed.{Present, present-of, has-below}
 use Rattle.rows.specs.Rows.{rowsIn, foundIn}
@@ -23,7 +23,7 @@ use Rattle.rows.proofs.Places.{found-at, found-missing, at-lt}
 use Rattle.layout.specs.Table.{Entry, entryKey, noEntry}
 use Rattle.places.specs.Places.{setOf, withPlace}
 use Rattle.places.proofs.Flags.{withPlace-set}
-use Rattle.ready.specs.Ready.{listedIn, readyIn, onList, eligible, candidateSet}
+use Rattle.ready.specs.Ready.{readyIn, onList, eligible, candidateSet}
 
 -- one key more on a list of flags
 module _ {A : Type 0} (key : A → ℕ) (f : A → Bool) (k : ℕ) where
@@ -51,34 +51,22 @@ pub length-ready : (w : List ℕ) → length (readyIn w) ≡ length w / 5
 unfolding readyIn
 length-ready w = length-map (rowsIn 5 (length w / 5) w) listedIn ∙ rows-length 5 (length w / 5) w
 
-pub ready-at : (w : List ℕ) (i : ℕ) → i < length w / 5 → getD (readyIn w) i [] ≡ listedIn (take 5 (drop (i * 5) w))
-unfolding readyIn
-ready-at w i h =
-    getD-map-in listedIn (rowsIn 5 (length w / 5) w) i [] [] (omega (arith, rows-length 5 (length w / 5) w))
-    ∙ ap listedIn (rows-at 5 (length w / 5) w i h)
-
--- the row i, word by word
-module _ (w : List ℕ) (i : ℕ) where
+-- the row at place i, as a part of the list
+module _ (w : List ℕ) (i : ℕ) (h : i < length w / 5) where
   abbrev row : List ℕ
-  row = take 5 (drop (i * 5) w)
+  row = take (i * 5 + 5 - i * 5) (drop (i * 5) w)
 
-  word : (j : ℕ) → j < 5 → getD row j 0 ≡ getD w (i * 5 + j) 0
-  word j h = getD-take 5 (drop (i * 5) w) j 0 h ∙ getD-drop (i * 5) w j 0
+  five : i * 5 + 5 - i * 5 ≡ 5
+  five = omega arith
 
-  first : getD row 0 0 ≡ getD w (i * 5) 0
-  first = let n : i * 5 + 0 ≡ i * 5 = omega arith in word 0 (omega arith) ∙ ap (λ (m : ℕ). getD w m 0) n
+  pub length-row : length row ≡ 5
+  length-row = rw five (length-take-le 5 (drop (i * 5) w) (simp length-drop (omega arith)))
 
-  pub listed-four : getD w (i * 5) 0 ≡ 4 → 4 ∷ getD w (i * 5 + 1) 0 ∷ 0 ∷ 0 ∷ 0 ∷ [] ≡ listedIn row
-  unfolding listedIn
-  listed-four e = rw (first, e, word 1 (omega arith))
-
-  pub listed-six : getD w (i * 5) 0 ≡ 6 → 6 ∷ getD w (i * 5 + 1) 0 ∷ getD w (i * 5 + 2) 0 ∷ getD w (i * 5 + 3) 0 ∷ getD w (i * 5 + 4) 0 ∷ [] ≡ listedIn row
-  unfolding listedIn
-  listed-six e = rw (first, e, word 1 (omega arith), word 2 (omega arith), word 3 (omega arith), word 4 (omega arith))
-
-  pub listed-neither : (getD w (i * 5) 0 ≡ 4 → ⊥) → (getD w (i * 5) 0 ≡ 6 → ⊥) → 4 ∷ 0 ∷ 0 ∷ 0 ∷ 0 ∷ [] ≡ listedIn row
-  unfolding listedIn
-  listed-neither m n = rw (first, ne-eqb _ 4 m, ne-eqb _ 6 n)
+  pub ready-at : getD (readyIn w) i [] ≡ listedIn row
+  unfolding readyIn
+  ready-at =
+      getD-map-in listedIn (rowsIn 5 (length w / 5) w) i [] [] (omega (arith, rows-length 5 (length w / 5) w))
+      ∙ ap listedIn (rows-at 5 (length w / 5) w i h ∙ ap (λ (n : ℕ). take n (drop (i * 5) w)) (sym five))
 
 -- THE READY SET of entries
 abbrev pub flags : List (List ℕ) → List Entry → List Bool

@@ -1,27 +1,19 @@
 -- The candidates (document 01, "The election", Eligible; RFC 8584, section 4): all routes or, with AC-DF in use, those whose address is on the ready list.
 -- Repeats and strangers in the list do no harm. A ready list is handed in as rows of five words, the family and four words (document 02, M-105).
---   listedIn r               == the address that a row of a ready list names: in an IPv4 row the words after the first don't count; a row of another family names
---                               address zero, which stands in no table
 --   readyIn w                == the addresses that the words w name: one for each whole row
 --   onList ready a           == whether the address a is on the ready list
 --   eligible ac ready e      == whether the entry e is eligible, where ac tells whether AC-DF is in use
 --   candidates ac ready l    == the eligible entries of l, in their order
 --   candidateSet ac ready l  == the candidate set: bit i is one exactly if the entry at place i is eligible
 use Prim.Native.Nat.{ℕ, _/_}
-use mathlib.Core.Bool.{Bool, false, cond, not, _||_}
+use mathlib.Core.Bool.{Bool, false, not, _||_}
 use mathlib.Core.List.{List, [], _∷_, map}
-use lib.ListN.{length, getD}
+use lib.ListN.{length}
 use lib.Dec.{eqb}
 use Rattle.rows.specs.Rows.{rowsIn}
-use Rattle.address.specs.Address.{addressKey}
+use Rattle.address.specs.Address.{addressKey, listedIn}
 use Rattle.layout.specs.Table.{Entry}
 use Rattle.places.specs.Places.{setOf, picked}
-
-unfoldable pub listedIn : List ℕ → List ℕ
-listedIn r =
-    cond (eqb (getD r 0 0) 4) (4 ∷ getD r 1 0 ∷ 0 ∷ 0 ∷ 0 ∷ [])
-    (cond (eqb (getD r 0 0) 6) (6 ∷ getD r 1 0 ∷ getD r 2 0 ∷ getD r 3 0 ∷ getD r 4 0 ∷ [])
-    (4 ∷ 0 ∷ 0 ∷ 0 ∷ 0 ∷ []))
 
 unfoldable pub readyIn : List ℕ → List (List ℕ)
 readyIn w = map listedIn (rowsIn 5 (length w / 5) w)

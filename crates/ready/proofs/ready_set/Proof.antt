@@ -14,7 +14,7 @@ use Rattle.layout.specs.Table.{entryKey, noEntry}
 use Rattle.layout.specs.Words.{tableIn}
 use Rattle.places.specs.Places.{setOf}
 use Rattle.ready.specs.Ready.{readyIn}
-use Rattle.ready.proofs.Laws.{length-ready, ready-at, flags, ready-none, ready-found, ready-stranger}
+use Rattle.ready.proofs.Laws.{length-ready, length-row, ready-at, flags, ready-none, ready-found, ready-stranger}
 use Rattle.ready.proofs.ready_set.Statement.{statement}
 use Rattle.ready.proofs.ready_set.Tie as tie
 
@@ -28,7 +28,10 @@ loop-holds : tie.Need-loop-holds Inv-loop μ-loop
 loop-holds c = (omega arith, ready-none (tableIn (c .before .before .args .t .now) .entries))
 
 lookup-requires : tie.Need-lookup-requires Inv-loop μ-loop
-lookup-requires c κs = c .before .before .before .before .before .pre
+lookup-requires c κs =
+    let turn = c .before .before in
+    let start = turn .before .before .before in
+    (start .pre, length-row (start .args .ready .now) (turn .loop .next) (omega arith))
 
 -- a place that is found is one of 64
 place-lt : (found : tie.After-found Inv-loop μ-loop) → found .found .given .0 .0 < 64
@@ -44,8 +47,7 @@ add-first c = let h = place-lt (c .before .before) in omega (arith, h)
 loop-again : tie.Need-loop-again Inv-loop μ-loop
 loop-again c =
     let called = c .before in
-    let named = called .before in
-    let turn = named .before .before in
+    let turn = called .before .before .before in
     let start = turn .before .before .before in
     let es = tableIn (start .args .t .now) .entries in
     let s = start .pre .sound in
@@ -54,7 +56,7 @@ loop-again c =
     let i = turn .loop .next in
     let g : i < length words / 5 = omega arith in
     let h : i < length ready = omega (arith, length-ready words) in
-    let e = ap (λ (r : List ℕ). foundIn entryKey (addressKey r) es) (ready-at words i g ∙ sym (named .listed .ensures)) in (
+    let e = ap (λ (r : List ℕ). foundIn entryKey (addressKey r) es) (ready-at words i g) in (
       omega arith,
       ⊎-elim
           (λ w. w .4 ∙ w .3 .ensures ∙ ready-found es (s .short) (s .rising) ready i h (turn .loop .set) (turn .loop .inv .1) _ (e ∙ sym (called .lookup .ensures .0) ∙ w .1 .given .1))
@@ -76,7 +78,12 @@ ready-set-spec =
     Inv-loop
     μ-loop
     loop-holds
-    (λ c κs. omega arith)
+    (λ c. omega arith)
+    (λ c. omega arith)
+    (λ c. omega arith)
+    (λ c. omega arith)
+    (λ c. omega arith)
+    (λ c. omega arith)
     lookup-requires
     (λ c. search needs)
     (λ c κs. place-lt (c .before))
