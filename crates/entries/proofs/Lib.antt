@@ -1,2 +1,2 @@
 mod Stores
-mod Lookups
+pub mod Lookups

@@ -204,6 +204,10 @@ module _ {b : List ℕ} {i : ℕ} {row : List ℕ} (k : Beside b i row) where
           ∙ sym (by-six f ∙ ap (λ (y : Order). firstDifference y (keyOrder (rowKey rest) (rowKey (take 3 (drop 2 row))))) same))
           names
 
+-- a place where something would stand is none where it stands
+pub missing-at : {i j : ℕ} → Missing i ≡ At j → ⊥
+missing-at e = let z : _≡_ {A = ℕ} 0 1 = cc in omega arith
+
 -- A ROW OF ANOTHER FAMILY names address zero, which is below every entry
 pub stranger : (b row : List ℕ) → Valid b → (getD row 0 0 ≡ 4 → ⊥) → (getD row 0 0 ≡ 6 → ⊥) → Missing 0 ≡ foundIn entryKey (addressKey (listedIn row)) (tableIn b .entries)
 stranger b row h m n =

@@ -8,10 +8,11 @@ use rows::Lookup;
 use rows::Order;
 ghost use mathlib.Core.Path.{_≡_};
 ghost use mathlib.Core.List.{[], _∷_, map};
-ghost use Prim.Native.Nat.{_≤_, _<_};
+ghost use Prim.Native.Nat.{ℕ, _≤_, _<_};
 ghost use lib.ListN.{length, getD, set};
 ghost use Rattle.keyed.specs.Keyed.{spliced, dropAt};
 ghost use Rattle.rows.specs.Rows.{keyOrder, foundIn, looksBetween, looksFor};
+ghost use Rattle.rows.specs.declared.Found.the-variants.{At};
 ghost use Rattle.rows.specs.declared.Order.the-variants.{Equal};
 ghost use Rattle.address.specs.Address.{addressRow, addressKey, listedIn, NamesAddress};
 ghost use Rattle.layout.specs.Table.{entryKey, noEntry, tableOf};
@@ -88,10 +89,11 @@ fn search(t: &[u32], address: Address) -> Lookup
 }
 
 // Goes on from a look at the place `first` for the address of a row of a ready list, with the outcome `order`. The row is made into an address only here; one whose family is
-// neither 4 nor 6 names none that could stand.
+// neither 4 nor 6 names none that could stand, and the next look is where this one was.
 fn after_first(t: &[u32], first: usize, order: Order, row: &[u32]) -> Lookup
     requires { ⌜ Valid (now t) × (first < length (tableIn (now t) .entries)) × (length (now row) ≡ 5) × (NamesAddress (now row) → order ≡ keyOrder (entryKey (getD (tableIn (now t) .entries) first noEntry)) (addressKey (listedIn (now row)))) ⌝ }
-    ensures found { λ r. ⌜ r .found ≡ foundIn entryKey (addressKey (listedIn (now (row .entry)))) (tableIn (now (t .entry)) .entries) ⌝ }
+    ensures found { λ r. ⌜ (NamesAddress (now (row .entry)) → r .found ≡ foundIn entryKey (addressKey (listedIn (now (row .entry)))) (tableIn (now (t .entry)) .entries)) ⌝ }
+    ensures stranger { λ r. ⌜ ((NamesAddress (now (row .entry)) → ⊥) → (i : ℕ) → r .found ≡ At i → ⊥) ⌝ }
     ensures looks { λ r. ⌜ (NamesAddress (now (row .entry)) → r .looks ≡ length (looksFor first (addressKey (listedIn (now (row .entry)))) (map entryKey (tableIn (now (t .entry)) .entries)))) ⌝ }
     ensures few { λ r. ⌜ r .looks ≤ 7 ⌝ }
 {
@@ -103,17 +105,18 @@ fn after_first(t: &[u32], first: usize, order: Order, row: &[u32]) -> Lookup
         return rows::after_look(t, n, first, order, &key);
     }
     Lookup {
-        found: Found::Missing(0),
+        found: Found::Missing(first),
         looks: 1,
     }
 }
 
 // Looks the address of a row of a ready list up near a place. The first look is at the entry at the place `first`, word by word as the row stands in the list: where it is that
 // of the address, as in a list that rises as the table does, this look is all; else the search goes on from its outcome. Where `first` is no place in use the first look
-// is in the middle. No entry is compared twice.
+// is in the middle. No entry is compared twice. A row whose family is neither 4 nor 6 is never found; the place that is told then says nothing.
 pub fn lookup(t: &[u32], first: usize, row: &[u32]) -> Lookup
     requires { ⌜ Valid (now t) × (length (now row) ≡ 5) ⌝ }
-    ensures found { λ r. ⌜ r .found ≡ foundIn entryKey (addressKey (listedIn (now (row .entry)))) (tableIn (now (t .entry)) .entries) ⌝ }
+    ensures found { λ r. ⌜ (NamesAddress (now (row .entry)) → r .found ≡ foundIn entryKey (addressKey (listedIn (now (row .entry)))) (tableIn (now (t .entry)) .entries)) ⌝ }
+    ensures stranger { λ r. ⌜ ((NamesAddress (now (row .entry)) → ⊥) → (i : ℕ) → r .found ≡ At i → ⊥) ⌝ }
     ensures looks { λ r. ⌜ (NamesAddress (now (row .entry)) → r .looks ≡ length (looksFor first (addressKey (listedIn (now (row .entry)))) (map entryKey (tableIn (now (t .entry)) .entries)))) ⌝ }
     ensures few { λ r. ⌜ r .looks ≤ 7 ⌝ }
 {

@@ -6,21 +6,25 @@ use native.Mathlib.Omega.{arith}
 use mathlib.Core.Path.{_≡_, refl, ap, ap₂, _∙_, sym}
 use mathlib.Core.Bool.{Bool, true, false, _||_, or-assoc, or-false, or-true}
 use mathlib.Core.List.{List, [], _∷_, _++_, map}
+use mathlib.Core.Logic.{inl, inr, ⊎-elim}
 use lib.ListN.{length, getD, set, take, drop, replicate, length-map, length-drop}
 use lib.Seq.{length-take-le, take-suc}
 use lib.Dec.{eqb}
-use borrow.Author.Tests.{eq-eqb, ne-eqb, eqb-false, lt-ltb, le-ltb}
-use Rattle.lists.proofs.Bools.{or-left, or-right}
+use borrow.Author.Tests.{eq-eqb, ne-eqb, eqb-true, eqb-false, lt-ltb, le-ltb}
+use Rattle.lists.proofs.Bools.{by-test, or-left, or-right}
 use Rattle.lists.proofs.Numbers.{either}
-use Rattle.address.specs.Address.{addressKey, listedIn}
+use Rattle.address.specs.Address.{addressKey, listedIn, NamesAddress}
 use Rattle.keyed.specs.Keyed.{Rising, has, rank}
 use Rattle.keyed.proofs.Keyed.{Present, present-of, has-below}
 use Rattle.rows.specs.Rows.{rowsIn, foundIn}
 use Rattle.rows.proofs.Rows.{rows-length, rows-at}
 use Rattle.lists.proofs.Lists.{getD-map-in}
+use Rattle.rows.specs.declared.Found.{Found}
 use Rattle.rows.specs.declared.Found.the-variants.{At, Missing}
 use Rattle.rows.proofs.Places.{found-at, found-missing, at-lt}
 use Rattle.layout.specs.Table.{Entry, entryKey, noEntry}
+use Rattle.layout.specs.Words.{tableIn, Valid}
+use Rattle.entries.proofs.Lookups.{stranger}
 use Rattle.places.specs.Places.{setOf, withPlace}
 use Rattle.places.proofs.Flags.{withPlace-set}
 use Rattle.ready.specs.Ready.{readyIn, onList, eligible, candidateSet}
@@ -53,7 +57,7 @@ length-ready w = length-map (rowsIn 5 (length w / 5) w) listedIn ∙ rows-length
 
 -- the row at place i, as a part of the list
 module _ (w : List ℕ) (i : ℕ) (h : i < length w / 5) where
-  abbrev row : List ℕ
+  abbrev pub row : List ℕ
   row = take (i * 5 + 5 - i * 5) (drop (i * 5) w)
 
   five : i * 5 + 5 - i * 5 ≡ 5
@@ -122,3 +126,17 @@ set-all ready l ac n b e h =
     all : (m : List Entry) → replicate (length m) true ≡ map (λ (x : Entry). true) m
     all [] = refl
     all (x ∷ m) = ap (true ∷_) (all m)
+
+-- WHAT A LOOKUP TELLS of a row of the list, whose family is 4 or 6, or neither
+by-family : {P : Type 0} (r : List ℕ) → (NamesAddress r → P) → ((NamesAddress r → ⊥) → P) → P
+by-family r n s =
+    by-test (eqb (getD r 0 0) 4)
+    (λ t. n (inl (eqb-true _ 4 t)))
+    (λ f. by-test (eqb (getD r 0 0) 6) (λ t. n (inr (eqb-true _ 6 t))) (λ g. s (⊎-elim (eqb-false _ 4 f) (eqb-false _ 6 g))))
+
+pub told-at : (r : List ℕ) {f k : Found} {i : ℕ} → (NamesAddress r → f ≡ k) → ((NamesAddress r → ⊥) → (j : ℕ) → f ≡ At j → ⊥) → f ≡ At i → k ≡ At i
+told-at r {i = i} n s e = by-family r (λ m. sym (n m) ∙ e) (λ d. absurd (s d i e))
+
+pub told-missing : {P : Type 0} (r b : List ℕ) → Valid b → {f : Found} {i : ℕ} → (NamesAddress r → f ≡ foundIn entryKey (addressKey (listedIn r)) (tableIn b .entries)) → f ≡ Missing i
+    → ((j : ℕ) → foundIn entryKey (addressKey (listedIn r)) (tableIn b .entries) ≡ Missing j → P) → P
+told-missing r b v {i = i} n e p = by-family r (λ m. p i (sym (n m) ∙ e)) (λ d. p 0 (sym (stranger b r v (λ f. d (inl f)) (λ f. d (inr f)))))

@@ -1,12 +1,13 @@
 -- `lookup` meets its contract: the first look is all, or the search goes on from its outcome. Assumes nothing.
 use native.Mathlib.Omega.{arith}
 use mathlib.Core.Path.{ap, sym, _∙_}
+use mathlib.Core.Logic.{inl, inr}
 use lib.ListN.{length}
 use borrow.Author.Needs.{needs}
 use Rattle.address.specs.Address.{addressKey, listedIn}
 use Rattle.rows.proofs.Compared.{is-same}
 use Rattle.layout.specs.Words.{tableIn}
-use Rattle.entries.proofs.Lookups.{first-none, first-hit}
+use Rattle.entries.proofs.Lookups.{first-none, first-hit, stranger, missing-at}
 use Rattle.entries.proofs.lookup.Statement.{statement}
 use Rattle.entries.proofs.lookup.Tie as tie
 
@@ -15,8 +16,13 @@ returns c =
     let counted = c .before .before .before in
     let a = counted .before .before .before .args in
     let told = rw (c .before .listed .ensures) at (c .search .ensures) in
-    let none = first-none (tableIn (a .t .now) .entries) (addressKey (listedIn (a .row .now))) (a .first) (omega (arith, counted .count .ensures, c .before .before .if1 .taken)) in
-    (told .0, (λ _. told .1 .0 ∙ ap length (sym none), told .1 .1))
+    let none = first-none (tableIn (a .t .now) .entries) (addressKey (listedIn (a .row .now))) (a .first) (omega (arith, counted .count .ensures, c .before .before .if1 .taken)) in (
+      λ _. told .0,
+      (
+        λ s i e. missing-at (stranger (a .t .now) (a .row .now) (counted .before .before .before .pre .0) (λ f. s (inl f)) (λ f. s (inr f)) ∙ sym (told .0) ∙ e),
+        (λ _. told .1 .0 ∙ ap length (sym none), told .1 .1),
+      ),
+    )
 
 returns-2 : tie.Need-returns-2
 returns-2 c =
@@ -28,7 +34,7 @@ returns-2 c =
     let order = looked .order-at .ensures in
     let same = is-same _ _ (sym (order .0 (order .1 equal)) ∙ equal) in
     let hit = first-hit (tableIn (a .t .now) .entries) (addressKey (listedIn (a .row .now))) (a .first) (start .pre .0 .sound .rising) (omega (arith, counted .count .ensures, looked .before .if1 .left)) same in
-    (hit .0, (λ _. hit .1, omega arith))
+    (λ _. hit .0, (λ s. absurd (s (order .1 equal)), (λ _. hit .1, omega arith)))
 
 pub lookup-spec : {M : Type 1} → statement M
 lookup-spec =

@@ -14,7 +14,7 @@ use Rattle.layout.specs.Table.{entryKey, noEntry}
 use Rattle.layout.specs.Words.{tableIn}
 use Rattle.places.specs.Places.{setOf}
 use Rattle.ready.specs.Ready.{readyIn}
-use Rattle.ready.proofs.Laws.{length-ready, length-row, ready-at, flags, ready-none, ready-found, ready-stranger}
+use Rattle.ready.proofs.Laws.{length-ready, row, length-row, ready-at, flags, ready-none, ready-found, ready-stranger, told-at, told-missing}
 use Rattle.ready.proofs.ready_set.Statement.{statement}
 use Rattle.ready.proofs.ready_set.Tie as tie
 
@@ -39,7 +39,9 @@ place-lt found =
     let called = found .before .before in
     let start = called .before .before .before .before .before .before in
     let s = start .pre .sound in
-    omega (arith, s .short, at-lt entryKey _ (tableIn (start .args .t .now) .entries) 1 noEntry (s .rising) _ (sym (called .lookup .ensures .0) ∙ found .found .given .1))
+    let told = called .lookup .ensures in
+    let r = row (start .args .ready .now) (called .before .before .before .loop .next) (omega arith) in
+    omega (arith, s .short, at-lt entryKey _ (tableIn (start .args .t .now) .entries) 1 noEntry (s .rising) _ (told-at r (told .0) (told .1 .0) (found .found .given .1)))
 
 add-first : tie.Need-add-first Inv-loop μ-loop
 add-first c = let h = place-lt (c .before .before) in omega (arith, h)
@@ -56,11 +58,13 @@ loop-again c =
     let i = turn .loop .next in
     let g : i < length words / 5 = omega arith in
     let h : i < length ready = omega (arith, length-ready words) in
-    let e = ap (λ (r : List ℕ). foundIn entryKey (addressKey r) es) (ready-at words i g) in (
+    let e = ap (λ (r : List ℕ). foundIn entryKey (addressKey r) es) (ready-at words i g) in
+    let told = called .lookup .ensures in
+    let r = row words i g in (
       omega arith,
       ⊎-elim
-          (λ w. w .4 ∙ w .3 .ensures ∙ ready-found es (s .short) (s .rising) ready i h (turn .loop .set) (turn .loop .inv .1) _ (e ∙ sym (called .lookup .ensures .0) ∙ w .1 .given .1))
-          (λ w. w .3 ∙ ready-stranger es (s .short) (s .rising) ready i h (turn .loop .set) (turn .loop .inv .1) _ (e ∙ sym (called .lookup .ensures .0) ∙ w .1 .given .1))
+          (λ w. w .4 ∙ w .3 .ensures ∙ ready-found es (s .short) (s .rising) ready i h (turn .loop .set) (turn .loop .inv .1) _ (e ∙ told-at r (told .0) (told .1 .0) (w .1 .given .1)))
+          (λ w. w .3 ∙ told-missing r (start .args .t .now) (start .pre) (told .0) (w .1 .given .1) (λ j q. ready-stranger es (s .short) (s .rising) ready i h (turn .loop .set) (turn .loop .inv .1) j (e ∙ q)))
           (c .match .came),
     )
 
