@@ -1,6 +1,6 @@
 // A table of Ethernet A-D routes in words that a caller lends: 256 rows of seven words in rising order (the kind of the route, its tag, its address), then the
 // number of routes.
-// Unused places are zero. What lies where is known here alone; the calls are in `circuits`.
+// Unused places are zero. What lies where is known here, and in `circuit_ready`, which compares a row where it stands; the calls are in `circuits`.
 use address::Address;
 use rows::Found;
 ghost use mathlib.Core.Path.{_≡_};

@@ -1,10 +1,9 @@
 -- Laws of `specs/Words.antt`: octets put into a number, the first low, and taken out again. Assumes nothing.
-use Prim.Native.Nat.{ℕ, zero, suc, _+_, _*_, _/_, _%_, _^_, _≤_, _<_}
+use Prim.Native.Nat.{ℕ, suc, _+_, _*_, _/_, _%_, _≤_, _<_}
 use native.Mathlib.Numerals.{add-one}
 use native.Mathlib.Omega.{arith}
-use native.Mathlib.Nat.{pow-succ'}
-use mathlib.Core.Path.{_≡_, refl, ap, ap₂, _∙_, sym}
-use mathlib.Core.List.{List, [], _∷_, _++_}
+use mathlib.Core.Path.{_≡_, refl, ap, _∙_, sym}
+use mathlib.Core.List.{List, [], _∷_}
 use lib.ListN.{length, getD, take, drop, length-drop}
 use lib.Seq.{length-take-le}
 use Rattle.lists.specs.Lists.{Every}
@@ -12,17 +11,6 @@ use Rattle.lists.proofs.Lists.{every-take, every-drop}
 use Rattle.octets.specs.Octets.{numberOf}
 use Rattle.octets.proofs.Laws.{take-elements}
 use Rattle.octet_words.specs.Words.{lowFirst, lowOctets}
-
-pub length-low : (n v : ℕ) → length (lowOctets n v) ≡ n
-unfolding lowOctets
-length-low zero v = refl
-length-low (suc n) v = ap suc (length-low n (v / 256))
-
--- what is taken out of a number is octets
-pub low-octets : (n v : ℕ) → Every (λ o. o < 256) (lowOctets n v)
-unfolding lowOctets Every
-low-octets zero v = tt
-low-octets (suc n) v = (omega arith, low-octets n (v / 256))
 
 -- octets put in and taken out again
 pub low-back : (s : List ℕ) → Every (λ o. o < 256) s → lowOctets (length s) (lowFirst s) ≡ s

@@ -1,5 +1,5 @@
 -- Laws of the words of a table's identifier: three words written, read as ten octets, and compared with others. Assumes nothing.
-use Prim.Native.Nat.{ℕ, _+_, _/_, _%_, _≤_, _<_}
+use Prim.Native.Nat.{ℕ, _+_}
 use native.Mathlib.Omega.{arith}
 use mathlib.Core.Path.{_≡_, refl, ap, _∙_, sym}
 use mathlib.Core.Bool.{Bool, true, false}
@@ -13,9 +13,8 @@ use Rattle.lists.proofs.Lists.{set-append-add}
 use Rattle.octets.specs.Octets.{sameNumbers}
 use Rattle.octets.proofs.Laws.{same-of, same-differ}
 use Rattle.octet_words.specs.Words.{lowFirst, lowOctets}
-use Rattle.octet_words.proofs.Laws.{low-four-octets}
 use Rattle.layout.specs.Words.{identifierWords, identifierIn, tableIn, Octets, Valid}
-use Rattle.layout.proofs.Words.{length-valid, esi-words, identifier-back}
+use Rattle.layout.proofs.Words.{esi-words, identifier-back}
 
 -- three words written over three
 over : (l : List ℕ) (a b c : ℕ) → length l ≡ 3 → set (set (set l 0 a) 1 b) 2 c ≡ a ∷ b ∷ c ∷ []

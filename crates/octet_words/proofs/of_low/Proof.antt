@@ -1,6 +1,5 @@
 -- `of_low` meets its contract: the four octets in the other order. Assumes nothing.
-use native.Mathlib.Omega.{arith}
-use mathlib.Core.Path.{ap, _∙_, sym}
+use mathlib.Core.Path.{_∙_, sym}
 use borrow.Author.Needs.{needs}
 use Rattle.octets.proofs.Laws.{four-octets}
 use Rattle.octet_words.proofs.Laws.{low-four-octets}

@@ -1,7 +1,6 @@
 -- `turned_round` meets its contract: the octets of the word, the low one first, make its number. Assumes nothing.
-use mathlib.Core.Path.{ap, _∙_, sym}
+use mathlib.Core.Path.{_∙_}
 use borrow.Author.Needs.{needs}
-use Rattle.octets.specs.Octets.{numberOf}
 use Rattle.octet_words.proofs.Laws.{low-four-octets}
 use Rattle.octet_words.proofs.turned_round.Statement.{statement}
 use Rattle.octet_words.proofs.turned_round.Tie as tie

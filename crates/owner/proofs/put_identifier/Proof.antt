@@ -1,12 +1,10 @@
 -- `put_identifier` meets its contract: three words are written, which the octets make. Assumes nothing.
 use Prim.Native.Nat.{ℕ, _<_}
-use native.Mathlib.Omega.{arith}
 use mathlib.Core.Path.{ap, _∙_}
-use mathlib.Core.List.{[], _∷_, _++_}
+use mathlib.Core.List.{_++_}
 use lib.ListN.{take}
 use borrow.Author.Needs.{needs}
 use Rattle.lists.proofs.Lists.{every-place}
-use Rattle.layout.specs.Words.{identifierWords}
 use Rattle.owner.proofs.Laws.{written, words-of}
 use Rattle.owner.proofs.put_identifier.Statement.{statement}
 use Rattle.owner.proofs.put_identifier.Tie as tie

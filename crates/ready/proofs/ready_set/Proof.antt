@@ -1,7 +1,7 @@
 -- `ready_set` meets its contract: at every turn, the set is that of the addresses looked up so far. Assumes nothing.
 use Prim.Native.Nat.{ℕ, _≤_, _<_, _-_, _/_}
 use native.Mathlib.Omega.{arith}
-use mathlib.Core.Path.{_≡_, ap, _∙_, sym}
+use mathlib.Core.Path.{_≡_, ap, _∙_}
 use mathlib.Core.List.{List}
 use mathlib.Core.Logic.{⊎-elim}
 use borrow.Author.Needs.{needs}

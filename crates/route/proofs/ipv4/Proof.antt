@@ -1,6 +1,5 @@
 -- `ipv4` meets its contract. Assumes nothing.
 use borrow.Author.Needs.{needs}
-use native.Mathlib.Omega.{arith}
 use Rattle.route.specs.Route.{ipv4In}
 use Rattle.route.proofs.ipv4.Statement.{statement}
 use Rattle.route.proofs.ipv4.Tie as tie
