@@ -37,15 +37,28 @@ pub fn of_u32(v: u32) -> [u8; 4]
     ]
 }
 
-// The hexadecimal digit of the low four bits of a number, in lower case.
+// The hexadecimal digit of the low four bits of a number, in lower case. A `match` becomes one load from a table.
 pub fn hex_digit(n: u8) -> u8
     ensures { λ r. ⌜ r ≡ hexDigit n ⌝ }
 {
-    let d = n % 16;
-    if d < 10 {
-        return 48 + d;
+    match n % 16 {
+        0 => b'0',
+        1 => b'1',
+        2 => b'2',
+        3 => b'3',
+        4 => b'4',
+        5 => b'5',
+        6 => b'6',
+        7 => b'7',
+        8 => b'8',
+        9 => b'9',
+        10 => b'a',
+        11 => b'b',
+        12 => b'c',
+        13 => b'd',
+        14 => b'e',
+        _ => b'f',
     }
-    87 + d
 }
 
 // Whether every octet is x.
