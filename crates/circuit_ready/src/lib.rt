@@ -100,7 +100,7 @@ fn look_for(circuits: &[u32], first: usize, kind: u32, tag: u32, address: &[u32]
 
 // The set of the places whose router is ready for a tag. Routers are asked for in rising address order, as the routes of each kind stand: the first look for each
 // of a router's two routes is at the place after the one where the last router's stood, or would stand. Of the first router it is at the first route. Where both
-// stand there, as those of every router after the first do where all are ready, equality alone decides; else both are searched for.
+// stand there, as those of every router after the first do where all are ready and no other router has routes between theirs, equality alone decides; else both are searched for.
 fn circuit_set(t: &[u32], circuits: &[u32], tag: u32) -> u64
     requires { ⌜ Valid (now t) × ValidCircuits (now circuits) ⌝ }
     ensures { λ r. ⌜ r ≡ setOf (map (λ e. readyFor (circuitsIn (now (circuits .entry))) tag (e .address)) (tableIn (now (t .entry)) .entries)) ⌝ }

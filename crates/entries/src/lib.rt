@@ -59,7 +59,7 @@ fn listed(row: &[u32]) -> Address
 fn order_at(t: &[u32], at: usize, row: &[u32]) -> Order
     requires { ⌜ Valid (now t) × (at < length (tableIn (now t) .entries)) × (length (now row) ≡ 5) ⌝ }
     ensures order { λ r. ⌜ (NamesAddress (now (row .entry)) → r ≡ keyOrder (entryKey (getD (tableIn (now (t .entry)) .entries) at noEntry)) (addressKey (listedIn (now (row .entry))))) ⌝ }
-    ensures named { λ r. ⌜ (r ≡ Equal → NamesAddress (now (row .entry))) ⌝ }
+    ensures names { λ r. ⌜ (r ≡ Equal → NamesAddress (now (row .entry))) ⌝ }
 {
     let start = at * address::WIDTH;
     let head = rows::compare(t, start, &row[0..HEAD]);
@@ -88,13 +88,14 @@ fn search(t: &[u32], address: Address) -> Lookup
     rows::search_between(t, n, 0, n, 0, &row)
 }
 
-// Goes on from a look at the place `first` for the address of a row of a ready list, with the outcome `order`. The row is made into an address only here; one whose family is
-// neither 4 nor 6 names none that could stand, and the next look is where this one was.
+// Goes on from a look at the place `first` for the address of a row of a ready list, with the outcome `order`. Where the family is neither 4 nor 6 the
+// row names no address that could stand, and the next look is where this one was.
 fn after_first(t: &[u32], first: usize, order: Order, row: &[u32]) -> Lookup
     requires { ⌜ Valid (now t) × (first < length (tableIn (now t) .entries)) × (length (now row) ≡ 5) × (NamesAddress (now row) → order ≡ keyOrder (entryKey (getD (tableIn (now t) .entries) first noEntry)) (addressKey (listedIn (now row)))) ⌝ }
     ensures found { λ r. ⌜ (NamesAddress (now (row .entry)) → r .found ≡ foundIn entryKey (addressKey (listedIn (now (row .entry)))) (tableIn (now (t .entry)) .entries)) ⌝ }
-    ensures stranger { λ r. ⌜ ((NamesAddress (now (row .entry)) → ⊥) → (i : ℕ) → r .found ≡ At i → ⊥) ⌝ }
+    ensures no_address { λ r. ⌜ ((NamesAddress (now (row .entry)) → ⊥) → (i : ℕ) → r .found ≡ At i → ⊥) ⌝ }
     ensures looks { λ r. ⌜ (NamesAddress (now (row .entry)) → r .looks ≡ length (looksFor first (addressKey (listedIn (now (row .entry)))) (map entryKey (tableIn (now (t .entry)) .entries)))) ⌝ }
+    ensures one_look { λ r. ⌜ ((NamesAddress (now (row .entry)) → ⊥) → r .looks ≡ 1) ⌝ }
     ensures few { λ r. ⌜ r .looks ≤ 7 ⌝ }
 {
     let family = row[0];
@@ -110,14 +111,15 @@ fn after_first(t: &[u32], first: usize, order: Order, row: &[u32]) -> Lookup
     }
 }
 
-// Looks the address of a row of a ready list up near a place. The first look is at the entry at the place `first`, word by word as the row stands in the list: where it is that
+// Looks the address of a row of a ready list up near a place. The first look is at the entry at the place `first`, the row compared as it stands in the list: where it is that
 // of the address, as in a list that rises as the table does, this look is all; else the search goes on from its outcome. Where `first` is no place in use the first look
 // is in the middle. No entry is compared twice. A row whose family is neither 4 nor 6 is never found; the place that is told then says nothing.
 pub fn lookup(t: &[u32], first: usize, row: &[u32]) -> Lookup
     requires { ⌜ Valid (now t) × (length (now row) ≡ 5) ⌝ }
     ensures found { λ r. ⌜ (NamesAddress (now (row .entry)) → r .found ≡ foundIn entryKey (addressKey (listedIn (now (row .entry)))) (tableIn (now (t .entry)) .entries)) ⌝ }
-    ensures stranger { λ r. ⌜ ((NamesAddress (now (row .entry)) → ⊥) → (i : ℕ) → r .found ≡ At i → ⊥) ⌝ }
-    ensures looks { λ r. ⌜ (NamesAddress (now (row .entry)) → r .looks ≡ length (looksFor first (addressKey (listedIn (now (row .entry)))) (map entryKey (tableIn (now (t .entry)) .entries)))) ⌝ }
+    ensures no_address { λ r. ⌜ ((NamesAddress (now (row .entry)) → ⊥) → (i : ℕ) → r .found ≡ At i → ⊥) ⌝ }
+    ensures looks { λ r. ⌜ ((first < length (tableIn (now (t .entry)) .entries) → NamesAddress (now (row .entry))) → r .looks ≡ length (looksFor first (addressKey (listedIn (now (row .entry)))) (map entryKey (tableIn (now (t .entry)) .entries)))) ⌝ }
+    ensures one_look { λ r. ⌜ ((NamesAddress (now (row .entry)) → ⊥) → first < length (tableIn (now (t .entry)) .entries) → r .looks ≡ 1) ⌝ }
     ensures few { λ r. ⌜ r .looks ≤ 7 ⌝ }
 {
     let n = layout::count(t);

@@ -1,4 +1,4 @@
--- Octets and the numbers that they make, the first octet low: the order in which a machine keeps a word. No paper asks for it; a table keeps its identifier so (`layout`).
+-- Octets and the numbers that they make, the first octet low: the order in which a machine keeps a word. No document asks for it; a table keeps its identifier so (`layout`).
 --   lowFirst s     == the number that the octets s make, the first low
 --   lowOctets n v  == the low n octets of the number v, the lowest first
 use Prim.Native.Nat.{ℕ, zero, suc, _+_, _*_, _/_, _%_}

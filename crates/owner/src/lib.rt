@@ -1,4 +1,4 @@
-// The identifier that a table belongs to, in the table's words, four octets to a word: written, read, and compared with another.
+// The identifier that a table belongs to, in three of the table's words, four octets in each of the first two: written, read, and compared with another.
 use layout::ESI;
 use refusals::ESI_RESERVED;
 ghost use mathlib.Core.Path.{_≡_};

@@ -9,6 +9,7 @@ ghost use Rattle.ready.specs.Ready.{readyIn, onList, candidateSet};
 
 // The set of the places whose address is on the ready list, a run of rows of five words. Repeats and strangers in the list do no harm. The first look for an address is at the table's
 // place after the one where the address before it was found, or at the place where that one would stand: where the list rises as the table does, it is there.
+// After a row whose family is neither 4 nor 6 it is where the look before was.
 pub fn ready_set(t: &[u32], ready: &[u32]) -> u64
     requires { ⌜ Valid (now t) ⌝ }
     ensures { λ r. ⌜ r ≡ setOf (map (λ e. onList (readyIn (now (ready .entry))) (e .address)) (tableIn (now (t .entry)) .entries)) ⌝ }

@@ -43,7 +43,7 @@ returns c =
     let looks = for-told b _ _ r (from .pre .0) z (named k) is (a .first) _ (c .after-look .ensures .1) in
     let joined = k .before .before .before .before in (
       λ _. found-told b _ _ r (from .pre .0) z (named k) is _ (c .after-look .ensures .0),
-      (λ s. absurd (s (names joined)), (λ _. looks .0, looks .1)),
+      (λ s. absurd (s (names joined)), (λ _. looks .0, (λ s. absurd (s (names joined)), looks .1))),
     )
 
 returns-2 : tie.Need-returns-2
@@ -52,7 +52,7 @@ returns-2 c =
     let a = from .args in
     let four = c .before .if1 .left in
     let six = eqb-false _ 6 (c .if2 .left) in
-    (⊎-elim (λ f. absurd (four f)) (λ f. absurd (six f)), (λ _ i e. missing-at e, (⊎-elim (λ f. absurd (four f)) (λ f. absurd (six f)), omega arith)))
+    (⊎-elim (λ f. absurd (four f)) (λ f. absurd (six f)), (λ _ i e. missing-at e, (⊎-elim (λ f. absurd (four f)) (λ f. absurd (six f)), (λ _. refl, omega arith))))
 
 pub after-first-spec : {M : Type 1} → statement M
 after-first-spec =

@@ -1,6 +1,6 @@
 -- `lookup` meets its contract: the first look is all, or the search goes on from its outcome. Assumes nothing.
 use native.Mathlib.Omega.{arith}
-use mathlib.Core.Path.{ap, sym, _∙_}
+use mathlib.Core.Path.{refl, ap, sym, _∙_}
 use mathlib.Core.Logic.{inl, inr}
 use lib.ListN.{length}
 use borrow.Author.Needs.{needs}
@@ -20,7 +20,7 @@ returns c =
       λ _. told .0,
       (
         λ s i e. missing-at (stranger (a .t .now) (a .row .now) (counted .before .before .before .pre .0) (λ f. s (inl f)) (λ f. s (inr f)) ∙ sym (told .0) ∙ e),
-        (λ _. told .1 .0 ∙ ap length (sym none), told .1 .1),
+        (λ _. told .1 .0 ∙ ap length (sym none), (λ _ l. absurd (omega (arith, l, counted .count .ensures, c .before .before .if1 .taken)), told .1 .1)),
       ),
     )
 
@@ -34,7 +34,14 @@ returns-2 c =
     let order = looked .order-at .ensures in
     let same = is-same _ _ (sym (order .0 (order .1 equal)) ∙ equal) in
     let hit = first-hit (tableIn (a .t .now) .entries) (addressKey (listedIn (a .row .now))) (a .first) (start .pre .0 .sound .rising) (omega (arith, counted .count .ensures, looked .before .if1 .left)) same in
-    (λ _. hit .0, (λ s. absurd (s (order .1 equal)), (λ _. hit .1, omega arith)))
+    (λ _. hit .0, (λ s. absurd (s (order .1 equal)), (λ _. hit .1, (λ _ _. refl, omega arith))))
+
+returns-3 : tie.Need-returns-3
+returns-3 c =
+    let looked = c .before .before in
+    let counted = looked .before .before in
+    let told = c .after-first .ensures in
+    (told .0, (told .1 .0, (λ n. told .1 .1 .0 (n (omega (arith, counted .count .ensures, looked .before .if1 .left))), (λ s _. told .1 .1 .1 .0 s, told .1 .1 .1 .1))))
 
 pub lookup-spec : {M : Type 1} → statement M
 lookup-spec =
@@ -48,4 +55,4 @@ lookup-spec =
     (λ c. search needs)
     (λ c κs. search needs)
     returns-2
-    (λ c. search needs))
+    returns-3)
