@@ -3,7 +3,7 @@
 // Every table lies in such rows: there is one search here, and one insertion and one removal in `gaps`.
 ghost use mathlib.Core.Path.{_≡_};
 ghost use mathlib.Core.List.{map};
-ghost use Prim.Native.Nat.{_+_, _-_, _*_, _/_, _%_, _≤_, _<_};
+ghost use Prim.Native.Nat.{_+_, _-_, _*_, _/_, _%_, _^_, _≤_, _<_};
 ghost use lib.ListN.{length, getD, take, drop};
 ghost use Rattle.keyed.specs.Keyed.{Rising};
 ghost use Rattle.rows.specs.Rows.{rowsIn, rowKey, keyOrder, foundIn, middle, Within, looked, looksBetween, firstLook, looksFor};
@@ -79,10 +79,10 @@ pub fn compare(s: &[u32], at: usize, key: &[u32]) -> Order
 
 // The place in the middle of a range.
 fn halfway(lo: usize, hi: usize) -> usize
-    requires { ⌜ lo ≤ hi ⌝ }
+    requires { ⌜ (lo ≤ hi) × (hi < 2 ^ 32) ⌝ }
     ensures { λ r. ⌜ r ≡ middle lo hi ⌝ }
 {
-    lo + (hi - lo) / 2
+    (lo + hi) / 2
 }
 
 // The place of the first look among n rows: the one that is proposed, or the middle where that is no row.
@@ -98,7 +98,7 @@ fn first_look(first: usize, n: usize) -> usize
 // Looks a key up between two places of n rows: those before the range are below the key, those after it above. The first look is at the place `first`; then the range that is
 // left is halved at each look. One look at a row decides less, equal or greater. `looks` counts on from the looks that were made before.
 fn seek(s: &[u32], n: usize, from: usize, to: usize, first: usize, made: u32, key: &[u32]) -> Lookup
-    requires { ⌜ (n * length (now key) ≤ length (now s)) × Rising rowKey 0 (rowsIn (length (now key)) n (now s)) × Within (rowKey (now key)) (rowsIn (length (now key)) n (now s)) from to × (from < to → (from ≤ first) × (first < to)) × (made ≤ 1) ⌝ }
+    requires { ⌜ (n * length (now key) ≤ length (now s)) × Rising rowKey 0 (rowsIn (length (now key)) n (now s)) × Within (rowKey (now key)) (rowsIn (length (now key)) n (now s)) from to × (from < to → (from ≤ first) × (first < to)) × (made ≤ 1) × (n < 2 ^ 32) ⌝ }
     ensures found { λ r. ⌜ r .found ≡ foundIn rowKey (rowKey (now (key .entry))) (rowsIn (length (now (key .entry))) n (now (s .entry))) ⌝ }
     ensures looks { λ r. ⌜ r .looks ≡ made + length (looked (to - from) (rowKey (now (key .entry))) (map rowKey (rowsIn (length (now (key .entry))) n (now (s .entry)))) from first to) ⌝ }
 {
@@ -135,7 +135,7 @@ fn seek(s: &[u32], n: usize, from: usize, to: usize, first: usize, made: u32, ke
 
 // Looks a key up by halving between two places of n rows, the row in the middle first. `looks` counts on from the looks that were made before.
 pub fn search_between(s: &[u32], n: usize, from: usize, to: usize, made: u32, key: &[u32]) -> Lookup
-    requires { ⌜ (n * length (now key) ≤ length (now s)) × Rising rowKey 0 (rowsIn (length (now key)) n (now s)) × Within (rowKey (now key)) (rowsIn (length (now key)) n (now s)) from to × (made ≤ 1) ⌝ }
+    requires { ⌜ (n * length (now key) ≤ length (now s)) × Rising rowKey 0 (rowsIn (length (now key)) n (now s)) × Within (rowKey (now key)) (rowsIn (length (now key)) n (now s)) from to × (made ≤ 1) × (n < 2 ^ 32) ⌝ }
     ensures found { λ r. ⌜ r .found ≡ foundIn rowKey (rowKey (now (key .entry))) (rowsIn (length (now (key .entry))) n (now (s .entry))) ⌝ }
     ensures looks { λ r. ⌜ r .looks ≡ made + length (looksBetween (rowKey (now (key .entry))) (map rowKey (rowsIn (length (now (key .entry))) n (now (s .entry)))) from to) ⌝ }
 {
@@ -146,7 +146,7 @@ pub fn search_between(s: &[u32], n: usize, from: usize, to: usize, made: u32, ke
 // Goes on from one look among n rows, at the place `at`, with the outcome `order`: the key is there, or it is looked up in what is left on its side. The row at that place is
 // not compared again.
 pub fn after_look(s: &[u32], n: usize, at: usize, order: Order, key: &[u32]) -> Lookup
-    requires { ⌜ (n * length (now key) ≤ length (now s)) × Rising rowKey 0 (rowsIn (length (now key)) n (now s)) × (at < n) × (order ≡ keyOrder (rowKey (take (length (now key)) (drop (at * length (now key)) (now s)))) (rowKey (now key))) ⌝ }
+    requires { ⌜ (n * length (now key) ≤ length (now s)) × Rising rowKey 0 (rowsIn (length (now key)) n (now s)) × (at < n) × (order ≡ keyOrder (rowKey (take (length (now key)) (drop (at * length (now key)) (now s)))) (rowKey (now key))) × (n < 2 ^ 32) ⌝ }
     ensures found { λ r. ⌜ r .found ≡ foundIn rowKey (rowKey (now (key .entry))) (rowsIn (length (now (key .entry))) n (now (s .entry))) ⌝ }
     ensures looks { λ r. ⌜ r .looks ≡ length (looksFor at (rowKey (now (key .entry))) (map rowKey (rowsIn (length (now (key .entry))) n (now (s .entry))))) ⌝ }
 {
@@ -163,7 +163,7 @@ pub fn after_look(s: &[u32], n: usize, at: usize, order: Order, key: &[u32]) -> 
 // Looks a key up among the first n rows. The first look is at the row `first`, or in the middle where there is no such row; then the range that is left is halved at each look.
 // `looks` is how many rows were compared with the key, each of them once.
 pub fn search(s: &[u32], n: usize, first: usize, key: &[u32]) -> Lookup
-    requires { ⌜ (n * length (now key) ≤ length (now s)) × Rising rowKey 0 (rowsIn (length (now key)) n (now s)) ⌝ }
+    requires { ⌜ (n * length (now key) ≤ length (now s)) × Rising rowKey 0 (rowsIn (length (now key)) n (now s)) × (n < 2 ^ 32) ⌝ }
     ensures found { λ r. ⌜ r .found ≡ foundIn rowKey (rowKey (now (key .entry))) (rowsIn (length (now (key .entry))) n (now (s .entry))) ⌝ }
     ensures looks { λ r. ⌜ r .looks ≡ length (looksFor first (rowKey (now (key .entry))) (map rowKey (rowsIn (length (now (key .entry))) n (now (s .entry))))) ⌝ }
 {

@@ -25,7 +25,7 @@ module _ (r : tie.After-count) where
 search-requires : tie.Need-search-requires
 search-requires c κs =
     let start = from c in
-    (rw (start .pre .1) (omega (arith, c .count .ensures, short (words c) (start .pre .0), length-valid (words c) (start .pre .0))), subst (λ (l : List (List ℕ)). Rising rowKey 0 l) (sym (rows c)) (start .pre .0 .sound .rising))
+    (rw (start .pre .1) (omega (arith, c .count .ensures, short (words c) (start .pre .0), length-valid (words c) (start .pre .0))), subst (λ (l : List (List ℕ)). Rising rowKey 0 l) (sym (rows c)) (start .pre .0 .sound .rising), omega (arith, c .count .ensures, short (words c) (start .pre .0)))
 
 returns : tie.Need-returns
 returns c = c .search .ensures .0 ∙ ap (λ (l : List (List ℕ)). foundIn rowKey (rowKey (from (c .before) .args .row .now)) l) (rows (c .before))

@@ -29,6 +29,7 @@ after-look-requires c κs =
       rise b _ _ r (from .pre .0) z (named c) is,
       omega (arith, z, from .pre .1),
       from .pre .3 (names joined) ∙ sym (order-there b _ _ r (from .pre .0) z (named c) is (a .first) _ (omega (arith, z, from .pre .1)) refl),
+      omega (arith, z, from .pre .0 .sound .short),
     )
 
 returns : tie.Need-returns

@@ -18,6 +18,7 @@ search-between-requires c κs =
       rise b _ _ r (start .pre) z (row .ensures .0) (row .ensures .1 .0),
       whole b _ _ r (start .pre) z (row .ensures .0) (row .ensures .1 .0),
       omega arith,
+      omega (arith, z, start .pre .sound .short),
     )
 
 returns : tie.Need-returns

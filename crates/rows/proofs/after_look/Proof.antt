@@ -30,12 +30,12 @@ module _ (entered : tie.After-shared-slice-known2) where
 search-between-requires : tie.Need-search-between-requires
 search-between-requires c κs =
     let e = c .before .before in
-    (start e .pre .0, start e .pre .1, after e Less (c .enum-told2 .given .1) .0, omega arith)
+    (start e .pre .0, start e .pre .1, after e Less (c .enum-told2 .given .1) .0, omega arith, start e .pre .4)
 
 search-between-requires-2 : tie.Need-search-between-requires-2
 search-between-requires-2 c κs =
     let e = c .before .before in
-    (start e .pre .0, start e .pre .1, after e Greater (c .enum-told3 .given .1) .0, omega arith)
+    (start e .pre .0, start e .pre .1, after e Greater (c .enum-told3 .given .1) .0, omega arith, start e .pre .4)
 
 returns : tie.Need-returns
 returns c = let told = after (c .before .before) Equal (c .enum-told .given .1) in (told .0, sym (told .1))

@@ -15,7 +15,7 @@ seek-requires : tie.Need-seek-requires
 seek-requires c κs =
     let start = c .before .before .before in
     let a = start .args in
-    (start .pre .0, start .pre .1, within-all (length (a .key .now)) (a .n) (rowKey (a .key .now)) (a .s .now), λ h. (omega arith, look-lt _ (a .n) (c .first-look .ensures) h), omega arith)
+    (start .pre .0, start .pre .1, within-all (length (a .key .now)) (a .n) (rowKey (a .key .now)) (a .s .now), λ h. (omega arith, look-lt _ (a .n) (c .first-look .ensures) h), omega arith, start .pre .2)
 
 returns : tie.Need-returns
 returns c =

@@ -61,12 +61,21 @@ returns c =
 -- the range that is left lies in the one before
 narrower : (c : tie.At-match-came Inv-loop μ-loop) →
     let turn = c .before .before .before in
-    (c .match .lo ≤ c .match .hi) × (c .match .hi - c .match .lo < turn .loop .hi - turn .loop .lo)
+    (c .match .lo ≤ c .match .hi) × (c .match .hi ≤ turn .loop .hi) × (c .match .hi - c .match .lo < turn .loop .hi - turn .loop .lo)
 narrower c =
     let called = c .before in
     let turn = called .before .before in
     let w = turn .loop .inv .2 (called .before .loop-test .taken) in
-    ⊎-elim (λ u. (omega (arith, w, u .2, u .3), omega (arith, w, u .2, u .3))) (λ u. (omega (arith, w, u .2, u .3), omega (arith, w, u .2, u .3))) (c .match .came)
+    ⊎-elim (λ u. (omega (arith, w, u .2, u .3), omega (arith, w, u .2, u .3), omega (arith, w, u .2, u .3))) (λ u. (omega (arith, w, u .2, u .3), omega (arith, w, u .2, u .3), omega (arith, w, u .2, u .3))) (c .match .came)
+
+-- and it can be halved
+halfway-requires : tie.Need-halfway-requires Inv-loop μ-loop
+halfway-requires c κs =
+    let turn = c .before .before .before in
+    let start = turn .before .before .before in
+    let a = start .args in
+    let n = narrower c in
+    (n .0, omega (arith, n .1, turn .loop .inv .0 .2, rows-length (length (a .key .now)) (a .n) (a .s .now), start .pre .5))
 
 loop-again : tie.Need-loop-again Inv-loop μ-loop
 loop-again c =
@@ -107,7 +116,7 @@ seek-spec =
     (λ c. search needs)
     (λ c. omega (arith, fits (c .before .before .before)))
     (λ c. search needs)
-    (λ c κs. narrower c .0)
-    (λ c. narrower (c .before) .1)
+    halfway-requires
+    (λ c. narrower (c .before) .2)
     loop-again
     returns-2)
