@@ -55,22 +55,22 @@ pub length-ready : (w : List ℕ) → length (readyIn w) ≡ length w / 5
 unfolding readyIn
 length-ready w = length-map (rowsIn 5 (length w / 5) w) listedIn ∙ rows-length 5 (length w / 5) w
 
--- the row at place i, as a part of the list
-module _ (w : List ℕ) (i : ℕ) (h : i < length w / 5) where
+-- the row at place i, as the part of the list that starts at word a
+module _ (w : List ℕ) (i a : ℕ) (h : i < length w / 5) (s : a ≡ i * 5) where
   abbrev pub row : List ℕ
-  row = take (i * 5 + 5 - i * 5) (drop (i * 5) w)
+  row = take (a + 5 - a) (drop a w)
 
-  five : i * 5 + 5 - i * 5 ≡ 5
+  five : a + 5 - a ≡ 5
   five = omega arith
 
   pub length-row : length row ≡ 5
-  length-row = rw five (length-take-le 5 (drop (i * 5) w) (simp length-drop (omega arith)))
+  length-row = rw five (length-take-le 5 (drop a w) (simp length-drop (omega arith)))
 
   pub ready-at : getD (readyIn w) i [] ≡ listedIn row
   unfolding readyIn
   ready-at =
       getD-map-in listedIn (rowsIn 5 (length w / 5) w) i [] [] (omega (arith, rows-length 5 (length w / 5) w))
-      ∙ ap listedIn (rows-at 5 (length w / 5) w i h ∙ ap (λ (n : ℕ). take n (drop (i * 5) w)) (sym five))
+      ∙ ap listedIn (rows-at 5 (length w / 5) w i h ∙ ap (λ (n : ℕ). take 5 (drop n w)) (sym s) ∙ ap (λ (n : ℕ). take n (drop a w)) (sym five))
 
 -- THE READY SET of entries
 abbrev pub flags : List (List ℕ) → List Entry → List Bool

@@ -14,12 +14,11 @@ pub fn ready_set(t: &[u32], ready: &[u32]) -> u64
     requires { ⌜ Valid (now t) ⌝ }
     ensures { λ r. ⌜ r ≡ setOf (map (λ e. onList (readyIn (now (ready .entry))) (e .address)) (tableIn (now (t .entry)) .entries)) ⌝ }
 {
-    let rows = ready.len() / WIDTH;
+    let mut left = ready.len() / WIDTH;
     let mut set = 0;
     let mut first = 0;
-    let mut next = 0;
-    while next < rows {
-        let start = next * WIDTH;
+    let mut start = 0;
+    while left != 0 {
         let end = start + WIDTH;
         let looked = entries::lookup(t, first, &ready[start..end]);
         let found = looked.found;
@@ -32,7 +31,8 @@ pub fn ready_set(t: &[u32], ready: &[u32]) -> u64
                 first = at;
             }
         }
-        next += 1;
+        start = end;
+        left -= 1;
     }
     set
 }
