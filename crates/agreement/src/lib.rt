@@ -1,6 +1,9 @@
 // The algorithm and the AC-DF bit that an election goes by: what all routes of the table agree on.
 ghost use mathlib.Core.Path.{_≡_};
-ghost use Rattle.layout.specs.Words.{tableIn, Valid};
+ghost use Prim.Native.Nat.{_<_};
+ghost use lib.ListN.{length, getD};
+ghost use Rattle.layout.specs.Table.{noEntry};
+ghost use Rattle.layout.specs.Words.{kindOf, tableIn, Valid};
 ghost use Rattle.settings.specs.Settings.{settingsIn, ValidSettings};
 ghost use Rattle.agreement.specs.Agreement.{usable, inUseWith};
 ghost use Rattle.agreement.specs.Steps.{allOfKind};
@@ -17,19 +20,21 @@ const FALLBACK: InUse = InUse {
     ac_df: false,
 };
 
-// Whether all entries are of one kind. All of them are looked at, which the compiler makes several looks at once: what differs anywhere leaves a bit in `differ`.
-fn all_of_kind(t: &[u32], kind: u32) -> bool
-    requires { ⌜ Valid (now t) ⌝ }
-    ensures { λ r. ⌜ r ≡ allOfKind kind (tableIn (now (t .entry)) .entries) ⌝ }
+// Whether all entries are of the kind of the first. All of them are looked at, which the compiler makes several looks at once: what differs anywhere leaves a bit
+// in `differ`.
+fn all_of_one_kind(t: &[u32]) -> bool
+    requires { ⌜ Valid (now t) × (0 < length (tableIn (now t) .entries)) ⌝ }
+    ensures { λ r. ⌜ r ≡ allOfKind (kindOf (getD (tableIn (now (t .entry)) .entries) 0 noEntry)) (tableIn (now (t .entry)) .entries) ⌝ }
 {
     let n = layout::count(t);
+    let first = layout::attributes_at(t, 0);
     let mut differ = 0;
     let mut i = 0;
     while i < n {
-        differ = differ | (layout::kind_at(t, i) ^ kind);
+        differ = differ | (layout::attributes_at(t, i) ^ first);
         i += 1;
     }
-    differ == 0
+    layout::kind_of(differ) == 0
 }
 
 // Whether all routes may agree on an algorithm: 0 to 3, or a number that is set.
@@ -56,7 +61,7 @@ pub fn in_use(t: &[u32], settings: &[u32]) -> InUse
     if !may_agree(settings, kind / 2) {
         return FALLBACK;
     }
-    if !all_of_kind(t, kind) {
+    if !all_of_one_kind(t) {
         return FALLBACK;
     }
     let algorithm = (kind / 2) as u8;

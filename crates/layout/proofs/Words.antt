@@ -187,13 +187,16 @@ module _ (b : List ℕ) (h : Valid b) where
     pub address-word : (j : ℕ) → j < 5 → getD b (5 * i + j) 0 ≡ getD (getD es i noEntry .address) j 0
     address-word j h = let n : 5 * i + j ≡ i * 5 + j = omega arith in ap (λ (m : ℕ). getD b m 0) n ∙ row-word 5 b i j _ h address-row
 
-    attributes-word : getD b (320 + i) 0 ≡ attributesOf (getD es i noEntry)
+    pub attributes-word : getD b (320 + i) 0 ≡ attributesOf (getD es i noEntry)
     attributes-word =
         sym (getD-drop 320 b i 0)
         ∙ row-one (drop 320 b) i _ (sym (rows-at 1 (length es) (drop 320 b) i l) ∙ ap (λ (s : List (List ℕ)). getD s i []) rows-attributes ∙ getD-map-in (λ (e : Entry). attributesOf e ∷ []) es i [] noEntry l)
 
-    pub kind-word : getD b (320 + i) 0 / 131072 ≡ kindOf (getD es i noEntry)
-    kind-word = ap (λ (w : ℕ). w / 131072) attributes-word ∙ kind-back (getD es i noEntry) (narrow-entry i)
+    pub attributes-kind : attributesOf (getD es i noEntry) / 131072 ≡ kindOf (getD es i noEntry)
+    attributes-kind = kind-back (getD es i noEntry) (narrow-entry i)
+
+    kind-word : getD b (320 + i) 0 / 131072 ≡ kindOf (getD es i noEntry)
+    kind-word = ap (λ (w : ℕ). w / 131072) attributes-word ∙ attributes-kind
 
     pub algorithm-word : getD b (320 + i) 0 / 131072 / 2 ≡ getD es i noEntry .algorithm
     unfolding kindOf

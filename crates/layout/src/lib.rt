@@ -4,11 +4,11 @@
 // the stores. What lies where is known in these three alone; the calls are in `table`.
 use community::Election;
 ghost use mathlib.Core.Path.{_≡_};
-ghost use Prim.Native.Nat.{_%_, _^_, _<_};
+ghost use Prim.Native.Nat.{_/_, _%_, _^_, _<_};
 ghost use lib.ListN.{length, getD};
 ghost use Rattle.address.specs.Address.{familyOf, addressWords, addressNumber};
 ghost use Rattle.layout.specs.Table.{noEntry};
-ghost use Rattle.layout.specs.Words.{kindOf, standingOf, tableIn, Valid, Packed};
+ghost use Rattle.layout.specs.Words.{kindOf, standingOf, attributesOf, tableIn, Valid, Packed};
 
 // The most routes that a table holds.
 pub const MAX_ROUTES: usize = 64;
@@ -73,12 +73,27 @@ pub fn low_word_at(t: &[u32], at: usize) -> u32
     t[start + 4]
 }
 
+// What the entry at a place says besides its address, as the word that it is kept as.
+pub fn attributes_at(t: &[u32], at: usize) -> u32
+    requires { ⌜ Valid (now t) × (at < length (tableIn (now t) .entries)) ⌝ }
+    ensures { λ r. ⌜ r ≡ attributesOf (getD (tableIn (now (t .entry)) .entries) at noEntry) ⌝ }
+{
+    t[ATTRIBUTES + at]
+}
+
+// The algorithm and the AC-DF bit in a word of attributes, as one number; and where a word says what differs, whether these do.
+pub fn kind_of(word: u32) -> u32
+    ensures { λ r. ⌜ r ≡ word / 131072 ⌝ }
+{
+    word / KIND
+}
+
 // The algorithm and the AC-DF bit of the entry at a place, as one number.
 pub fn kind_at(t: &[u32], at: usize) -> u32
     requires { ⌜ Valid (now t) × (at < length (tableIn (now t) .entries)) ⌝ }
     ensures { λ r. ⌜ r ≡ kindOf (getD (tableIn (now (t .entry)) .entries) at noEntry) ⌝ }
 {
-    t[ATTRIBUTES + at] / KIND
+    kind_of(attributes_at(t, at))
 }
 
 // The algorithm of the entry at a place.

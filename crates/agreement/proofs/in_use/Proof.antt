@@ -1,14 +1,15 @@
 -- `in_use` meets its contract: each return is one case of the definition, by the kind of the first entry. Assumes nothing.
-use Prim.Native.Nat.{_<_}
+use Prim.Native.Nat.{ℕ, _<_}
 use native.Mathlib.Omega.{arith}
 use mathlib.Core.List.{List}
-use mathlib.Core.Path.{sym, _∙_}
+use mathlib.Core.Path.{ap, sym, _∙_}
 use borrow.Author.Needs.{needs}
 use borrow.Author.Tests.{not-true, not-false}
 use lib.ListN.{length}
 use Rattle.layout.specs.Table.{Entry}
 use Rattle.layout.specs.Words.{tableIn}
 use Rattle.settings.specs.Settings.{Settings, settingsIn}
+use Rattle.agreement.specs.Steps.{allOfKind}
 use Rattle.agreement.proofs.Laws.{usable-bound, in-use-empty, in-use-unusable, in-use-differs, in-use-agreed}
 use Rattle.agreement.proofs.in_use.Statement.{statement}
 use Rattle.agreement.proofs.in_use.Tie as tie
@@ -41,7 +42,7 @@ returns-3 c =
     let called = c .before in
     let known = called .before .before .before in
     let start = known .before .before .before .before .before in
-    in-use-differs (set start) (entries start) (some (known .before)) _ (known .kind-at .ensures) (sym (called .all-of-kind .ensures) ∙ not-true _ (c .if3 .taken))
+    in-use-differs (set start) (entries start) (some (known .before)) _ (known .kind-at .ensures) (ap (λ (k : ℕ). allOfKind k (entries start)) (known .kind-at .ensures) ∙ sym (called .all-of-one-kind .ensures) ∙ not-true _ (c .if3 .taken))
 
 cast-algorithm : tie.Need-cast-algorithm
 cast-algorithm c =
@@ -57,7 +58,7 @@ returns-4 c =
     let asked = passed .before in
     let known = asked .before in
     let start = known .before .before .before .before .before in
-    in-use-agreed (set start) (entries start) (some (known .before)) _ (known .kind-at .ensures) (sym (asked .may-agree .ensures) ∙ not-false _ (passed .if2 .left)) (sym (called .all-of-kind .ensures) ∙ not-false _ (c .if3 .left))
+    in-use-agreed (set start) (entries start) (some (known .before)) _ (known .kind-at .ensures) (sym (asked .may-agree .ensures) ∙ not-false _ (passed .if2 .left)) (ap (λ (k : ℕ). allOfKind k (entries start)) (known .kind-at .ensures) ∙ sym (called .all-of-one-kind .ensures) ∙ not-false _ (c .if3 .left))
 
 pub in-use-spec : {M : Type 1} → statement M
 in-use-spec =
