@@ -1,4 +1,5 @@
 -- `elect_source_group` meets its contract: it is the election of the query for (S,G), with the number that is set for it. Assumes nothing.
+use native.Mathlib.Omega.{arith}
 use mathlib.Core.Path.{refl, _∙_, sym}
 use lib.ListN.{length}
 use borrow.Author.Needs.{needs}
@@ -10,8 +11,13 @@ use Rattle.flow_election.proofs.elect_source_group.Tie as tie
 
 elect-query-requires : tie.Need-elect-query-requires
 elect-query-requires c κs =
-    let start = c .before .before .before .before .before .before .before in
-    (start .pre .0, start .pre .1, λ t. both-whole-words (length (now (start .args .source))) (length (now (start .args .group))) (sym (c .are-lengths .ensures) ∙ t))
+    let start = c .before .before .before .before .before .before .before in (
+      start .pre .0,
+      start .pre .1,
+      λ t.
+          let words = both-whole-words (length (now (start .args .source))) (length (now (start .args .group))) (sym (c .are-lengths .ensures) ∙ t) in
+          (omega arith, omega arith),
+    )
 
 returns : tie.Need-returns
 unfolding rightLengths flowOctets numberFor
