@@ -2,7 +2,7 @@
 // there, or a refusal.
 ghost use mathlib.Core.Path.{_≡_};
 ghost use mathlib.Core.List.{_++_};
-ghost use Prim.Native.Nat.{_<_, _^_};
+ghost use Prim.Native.Nat.{_%_, _^_, _<_};
 ghost use lib.Count.{ones};
 ghost use lib.ListN.{length, getD};
 ghost use Rattle.layout.specs.Table.{noEntry};
@@ -57,9 +57,10 @@ pub fn place_by_tag(t: &[u32], algorithm: u8, set: u64, n: u32, tag: u32) -> usi
     winner::elected_place(t, set, n, algorithm, tag, digest)
 }
 
-// The same for a multicast flow, whose digest is taken over S, G, the tag and the identifier: by the greatest weight, as algorithm 1 has it.
+// The same for a multicast flow, whose digest is taken over S and G, which are whole words of four octets, the tag and the identifier: by the greatest weight, as
+// algorithm 1 has it.
 pub fn place_by_flow(t: &[u32], set: u64, source: &[u8], group: &[u8], tag: u32) -> usize
-    requires { ⌜ Valid (now t) × (set ≡ 0 → ⊥) × (set < 2 ^ length (tableIn (now t) .entries)) ⌝ }
+    requires { ⌜ Valid (now t) × (set ≡ 0 → ⊥) × (set < 2 ^ length (tableIn (now t) .entries)) × (length (now source) % 4 ≡ 0) × (length (now group) % 4 ≡ 0) ⌝ }
     ensures { λ r. ⌜ ElectedAt (tableIn (now (t .entry)) .entries) 1 (flowDigestOf (now (source .entry) ++ now (group .entry)) tag (tableIn (now (t .entry)) .esi)) set tag r ⌝ }
 {
     let esi = owner::identifier(t);

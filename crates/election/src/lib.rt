@@ -7,9 +7,11 @@ use refusals::NONE_ELIGIBLE;
 use refusals::READY_TOO_LONG;
 use refusals::TAG_RESERVED;
 ghost use mathlib.Core.Path.{_≡_};
-ghost use mathlib.Core.Bool.{false};
+ghost use mathlib.Core.Bool.{true, false};
 ghost use mathlib.Core.List.{_++_};
+ghost use Prim.Native.Nat.{_%_};
 ghost use lib.Count.{ones};
+ghost use lib.ListN.{length};
 ghost use Rattle.tags.specs.Tags.{reservedTag};
 ghost use Rattle.layout.specs.Words.{tableIn, Valid};
 ghost use Rattle.settings.specs.Settings.{settingsIn, ValidSettings};
@@ -46,7 +48,7 @@ fn agreed_on(in_use: u8, number: u32) -> bool
 }
 
 // Elects for a query of any kind: `number` is the one that is set for its kind, or 0; `right` tells whether the addresses of its flow, S and G, have right
-// lengths. Of a plain query both are empty, as S is for a flow (*,G). 10 for a reserved tag, 11 for a ready list over 64 rows of five words, 18 for a wrong
+// lengths, which are whole words of four octets. Of a plain query both are empty, as S is for a flow (*,G). 10 for a reserved tag, 11 for a ready list over 64 rows of five words, 18 for a wrong
 // length, 12 where no route is eligible.
 pub fn elect_query(
     t: &[u32],
@@ -58,7 +60,7 @@ pub fn elect_query(
     tag: u32,
     ready: &[u32],
 ) -> Answer
-    requires { ⌜ Valid (now t) × ValidSettings (now settings) ⌝ }
+    requires { ⌜ Valid (now t) × ValidSettings (now settings) × (right ≡ true → (length (now source) % 4 ≡ 0) × (length (now group) % 4 ≡ 0)) ⌝ }
     ensures { λ r. ⌜ ElectedFor (settingsIn (now (settings .entry))) number right (now (source .entry) ++ now (group .entry)) (tableIn (now (t .entry)) .esi) (tableIn (now (t .entry)) .entries) tag (readyIn (now (ready .entry))) r ⌝ }
 {
     if tags::is_reserved(tag) {

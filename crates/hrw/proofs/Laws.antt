@@ -1,22 +1,27 @@
--- Laws of `specs/Crc.antt` and `specs/Weight.antt`: the CRC an octet at a time and over runs of octets, the image of a digest, and the low 31 bits that decide a weight.
+-- Laws of `specs/Crc.antt` and `specs/Weight.antt`: the CRC an octet at a time, over runs of octets and by words of four, the octets of a digest, and the low 31 bits that decide a weight.
 -- Assumes nothing.
-use Prim.Native.Nat.{ℕ, zero, suc, _+_, _*_, _/_, _%_, _^_, _≤_, _<_}
-use native.Mathlib.Nat.{mul-one, mul-add, mul-assoc, add-assoc, div-add-mod', mod-lt, mul-add-mod-self-right}
+use Prim.Native.Nat.{ℕ, zero, suc, _+_, _-_, _*_, _/_, _%_, _^_, _≤_, _<_}
+use native.Mathlib.Nat.{le-of-eq, sub-zero, zero-add, suc-add, mul-one, mul-add, mul-assoc, add-assoc, pow-suc, div-add-mod', mod-lt, mul-add-mod-self-right}
 use native.Mathlib.Numerals.{add-one}
 use native.Mathlib.Omega.{arith}
-use mathlib.Core.Path.{_≡_, refl, ap, _∙_, sym}
+use mathlib.Core.Path.{_≡_, refl, ap, ap₂, _∙_, sym}
 use mathlib.Core.Bool.{cond}
 use mathlib.Core.List.{List, [], _∷_, _++_}
-use lib.ListN.{length, length-append, getD, drop, drop-of-length-le}
-use lib.Seq.{drop-cons}
+use lib.ListN.{length, getD, take, drop, take-append-drop, length-drop, drop-of-length-le}
+use lib.Seq.{take-all, drop-cons, drop-drop, length-take-le}
+use lib.Arith.{lt-one}
 use lib.Pow.{pow-pos, split}
 use lib.Dec.{eqb}
-use lib.Bits.{bitXor, differ, xor-shifted, xor-mod, shifted-half, shifted-even}
-use Rattle.octets.specs.Octets.{octetsOf, stored}
-use Rattle.octets.proofs.Laws.{length-octets, stored-stored, stored-all}
+use lib.Bits.{bitXor, differ, xor-comm, xor-zero-r, xor-lt, xor-shifted, xor-mod, shifted-half, shifted-even}
+use Rattle.lists.specs.Lists.{Every}
+use Rattle.lists.proofs.Lists.{every-place, every-take, every-drop}
+use Rattle.octets.specs.Octets.{octetsOf}
+use Rattle.octets.proofs.Laws.{length-octets, octets-octets, elements, take-elements}
+use Rattle.octet_words.specs.Words.{lowFirst, lowOctets}
+use Rattle.octet_words.proofs.Laws.{low-back}
 use Rattle.crc.specs.Crc.{polynomial, allOnes, crcBit, crcBits, crcOctet, crcOver, crc32Of}
 use Rattle.hrw.specs.Weight.{digestOver, flowDigestOf, weightOf}
-use Rattle.hrw.proofs.Xor.{bit, xor-half, xor-odd, xor-xor}
+use Rattle.hrw.proofs.Xor.{bit, xor-half, xor-odd, xor-assoc, xor-xor}
 
 -- ---- an octet at a time
 
@@ -53,15 +58,14 @@ crcBits-parts n k c =
     ap (crcBits n) (sym (xor-shifted (c / 2 ^ k) k (c % 2 ^ k) (mod-lt c (pow-pos k)) ∙ split c k))
     ∙ crcBits-xor n (c / 2 ^ k * 2 ^ k) (c % 2 ^ k)
 
-pub crcOctet-parts : (c x : ℕ) → crcOctet c x ≡ bitXor (bitXor c x / 256) (crcOctet 0 (bitXor c x % 256))
+pub crcBits-octet : (c : ℕ) → crcBits 8 c ≡ bitXor (c / 256) (crcOctet 0 (c % 256))
 unfolding crcOctet
-crcOctet-parts c x =
-    crcBits-parts 8 8 (bitXor c x) ∙ ap (λ (n : ℕ). bitXor n (crcBits 8 (bitXor c x % 256))) (crcBits-shift 8 (bitXor c x / 256))
+crcBits-octet c = crcBits-parts 8 8 c ∙ ap (λ (n : ℕ). bitXor n (crcBits 8 (c % 256))) (crcBits-shift 8 (c / 256))
 
 -- ---- octet after octet
 
-pub crcOver-next : (c : ℕ) (s : List ℕ) (i : ℕ) → i < length s → crcOver c (drop i s) ≡ crcOver (crcOctet c (getD s i 0)) (drop (i + 1) s)
-unfolding crcOver
+pub crcOver-next : (c : ℕ) (s : List ℕ) (i : ℕ) → i < length s → crcOver c (drop i s) ≡ crcOver (crcBits 8 (bitXor c (getD s i 0))) (drop (i + 1) s)
+unfolding crcOver crcOctet
 crcOver-next c s i h = rw (drop-cons s i 0 h, add-one)
 
 pub crcOver-end : (c : ℕ) (s : List ℕ) (i : ℕ) → length s ≤ i → crcOver c (drop i s) ≡ c
@@ -74,16 +78,99 @@ unfolding crcOver
 crcOver-append c [] t = refl
 crcOver-append c (x ∷ s) t = crcOver-append (crcOctet c x) s t
 
+-- octets in two parts, as lists
+pub crcOver-parts : (c : ℕ) (s : List ℕ) (n : ℕ) → crcOver c s ≡ crcOver (crcOver c (take n s)) (drop n s)
+crcOver-parts c s n = ap (crcOver c) (sym (take-append-drop n s)) ∙ crcOver-append c (take n s) (drop n s)
+
+-- and as the code takes parts of a slice
+pub crcOver-slices : (c : ℕ) (s : List ℕ) (n : ℕ) → crcOver (crcOver c (take (n - 0) s)) (take (length s - n) (drop n s)) ≡ crcOver c s
+crcOver-slices c s n = rw (sub-zero n, take-all (length s - n) (drop n s) (le-of-eq (length-drop n s))) (sym (crcOver-parts c s n))
+
+-- ---- octets as one word, the first low
+
+-- bits after others go on from what those made of the register
+pub crcBits-add : (m n c : ℕ) → crcBits (m + n) c ≡ crcBits n (crcBits m c)
+unfolding crcBits
+crcBits-add zero n c = rw (zero-add n)
+crcBits-add (suc m) n c = rw (suc-add m n) (crcBits-add m n (crcBit c))
+
+-- eight bits of a register with a word mixed in: the low octet is gone over, and what is above it stays mixed in, an octet lower
+crcBits-low : (c w : ℕ) → crcBits 8 (bitXor c w) ≡ bitXor (crcOctet c (w % 256)) (w / 256)
+unfolding crcOctet
+crcBits-low c w =
+    crcBits-xor 8 c w
+    ∙ ap (bitXor (crcBits 8 c)) (crcBits-octet w ∙ xor-comm (w / 256) (crcBits 8 (w % 256)))
+    ∙ sym (xor-assoc (crcBits 8 c) (crcBits 8 (w % 256)) (w / 256))
+    ∙ ap (λ (n : ℕ). bitXor n (w / 256)) (sym (crcBits-xor 8 c (w % 256)))
+
+-- so the octets of a word, one after the other, make what the whole word makes at once
+crcOver-word : (k c w : ℕ) → w < 256 ^ k → crcOver c (lowOctets k w) ≡ crcBits (8 * k) (bitXor c w)
+unfolding crcOver crcBits lowOctets
+crcOver-word zero c w h = rw (lt-one h) (sym (xor-zero-r c))
+crcOver-word (suc k) c w h =
+    let e : 8 * suc k ≡ 8 + 8 * k = omega arith in
+    let t = rw (pow-suc 256 k) at h in
+    let q : w / 256 < 256 ^ k = omega arith in
+    crcOver-word k (crcOctet c (w % 256)) (w / 256) q
+    ∙ ap (crcBits (8 * k)) (sym (crcBits-low c w))
+    ∙ sym (ap (λ (n : ℕ). crcBits n (bitXor c w)) e ∙ crcBits-add 8 (8 * k) (bitXor c w))
+
+-- the word that octets make has no more octets than these
+low-lt : (s : List ℕ) → Every (λ o. o < 256) s → lowFirst s < 256 ^ length s
+unfolding lowFirst Every
+low-lt [] h = omega arith
+low-lt (x ∷ s) h =
+    let l = low-lt s (h .1) in
+    let o = h .0 in
+    rw (pow-suc 256 (length s)) (omega arith)
+
+-- octets one after the other, from the word that they make
+crcOver-low : (c : ℕ) (s : List ℕ) → Every (λ o. o < 256) s → crcOver c s ≡ crcBits (8 * length s) (bitXor c (lowFirst s))
+crcOver-low c s h = ap (crcOver c) (sym (low-back s h)) ∙ crcOver-word (length s) c (lowFirst s) (low-lt s h)
+
+-- four octets of a run, and those behind them
+pub crcOver-four : (c : ℕ) (s : List ℕ) (i : ℕ) → Every (λ o. o < 256) s → i + 4 ≤ length s → crcOver c (drop i s) ≡ crcOver (crcBits 32 (bitXor c (lowFirst (take 4 (drop i s))))) (drop (i + 4) s)
+crcOver-four c s i o h =
+    let part = take 4 (drop i s) in
+    let four : length part ≡ 4 = length-take-le 4 (drop i s) (rw length-drop (omega arith)) in
+    let octets = every-take (λ (x : ℕ). x < 256) 4 (drop i s) (every-drop (λ (x : ℕ). x < 256) i s o) in
+    crcOver-parts c (drop i s) 4
+    ∙ ap (λ (l : List ℕ). crcOver (crcOver c part) l) (drop-drop 4 i s)
+    ∙ ap (λ (n : ℕ). crcOver n (drop (i + 4) s)) (crcOver-low c part octets ∙ ap (λ (n : ℕ). crcBits (8 * n) (bitXor c (lowFirst part))) four)
+
 -- ---- digests
 
--- an image that the tag's octets and the identifier fill
-pub image-stored : (d : List ℕ) (tag : ℕ) (esi : List ℕ) → length d ≡ 14 → length esi ≡ 10 → stored (stored d 0 (octetsOf 4 tag)) 4 esi ≡ octetsOf 4 tag ++ esi
-image-stored d tag esi hd he =
-    let four = length-octets 4 tag in
-    let all = length-append (octetsOf 4 tag) esi in
-    stored-stored d 0 (octetsOf 4 tag) esi 4 (omega (arith, four)) (omega arith) ∙ stored-all d (octetsOf 4 tag ++ esi) (omega (arith, four, all))
+-- all elements of a run, one by one
+elements-all : (n : ℕ) (s : List ℕ) → length s ≡ n → elements n 0 s ≡ s
+elements-all n s e = sym (take-elements n 0 s (omega arith)) ∙ take-all n s (omega arith)
 
--- the digest of a flow, from the register that S, then G, then the image make one after the other
+-- the sixteen octets that are made for a digest
+pub padded-octets : (c tag w : ℕ) (head x esi : List ℕ) → head ≡ octetsOf 4 tag → w ≡ lowFirst (take 4 head) → x ≡ lowOctets 4 (bitXor c w) → length esi ≡ 10
+    → 0 ∷ 0 ∷ (elements 4 0 x ++ elements 10 0 esi) ≡ 0 ∷ 0 ∷ (lowOctets 4 (bitXor c (lowFirst (octetsOf 4 tag))) ++ esi)
+unfolding octetsOf lowOctets
+padded-octets c tag w head x esi eh ew ex ee =
+    let whole : x ≡ lowOctets 4 (bitXor c (lowFirst (octetsOf 4 tag))) = ex ∙ ap (λ (n : ℕ). lowOctets 4 (bitXor c n)) (ew ∙ ap (λ (l : List ℕ). lowFirst (take 4 l)) eh) in
+    ap₂ (λ (a b : List ℕ). 0 ∷ 0 ∷ (a ++ b)) (elements-all 4 x (ap length ex) ∙ whole) (elements-all 10 esi ee)
+
+-- zeros leave an empty register empty
+crcOver-zeros : (s : List ℕ) → crcOver 0 (0 ∷ 0 ∷ s) ≡ crcOver 0 s
+unfolding crcOver crcOctet crcBits crcBit
+crcOver-zeros s = refl
+
+-- so a state may be mixed into the octets that it goes over, behind two zeros
+pub padded-over : (c tag : ℕ) (s : List ℕ) → c < 2 ^ 32 → crcOver 0 (0 ∷ 0 ∷ (lowOctets 4 (bitXor c (lowFirst (octetsOf 4 tag))) ++ s)) ≡ crcOver c (octetsOf 4 tag ++ s)
+padded-over c tag s h =
+    let head = octetsOf 4 tag in
+    let four = length-octets 4 tag in
+    let octets = every-place (λ (x : ℕ). x < 256) head 0 (λ i _. octets-octets 4 tag i) in
+    let w = lowFirst head in
+    let wide : w < 2 ^ 32 = rw four at (low-lt head octets) in
+    crcOver-zeros (lowOctets 4 (bitXor c w) ++ s)
+    ∙ crcOver-append 0 (lowOctets 4 (bitXor c w)) s
+    ∙ ap (λ (n : ℕ). crcOver n s) (crcOver-word 4 0 (bitXor c w) (xor-lt 32 c w h wide) ∙ sym (rw four at (crcOver-low c head octets)))
+    ∙ sym (crcOver-append c head s)
+
+-- the digest of a flow, from the register that S, then G, then the tag and the identifier make one after the other
 pub flow-digest-steps : (source group : List ℕ) (tag : ℕ) (esi : List ℕ) → bitXor (crcOver (crcOver (crcOver allOnes source) group) (octetsOf 4 tag ++ esi)) allOnes % 2 ^ 31 ≡ flowDigestOf (source ++ group) tag esi
 unfolding flowDigestOf digestOver crc32Of
 flow-digest-steps source group tag esi = rw (crcOver-append allOnes (source ++ group) (octetsOf 4 tag ++ esi), crcOver-append allOnes source group)

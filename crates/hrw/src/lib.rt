@@ -1,8 +1,12 @@
 // Highest random weight (HRW): CRC-32, the digest of an Ethernet Tag on a segment, and the weight of an address.
 ghost use mathlib.Core.Path.{_≡_};
-ghost use mathlib.Core.List.{_++_};
-ghost use Rattle.crc.specs.Crc.{crcOctet, crcOver, crc32Of};
+ghost use mathlib.Core.List.{_∷_, _++_};
+ghost use Prim.Native.Nat.{_%_, _^_};
+ghost use lib.ListN.{length};
+ghost use lib.Bits.{bitXor};
 ghost use Rattle.octets.specs.Octets.{octetsOf};
+ghost use Rattle.octet_words.specs.Words.{lowFirst, lowOctets};
+ghost use Rattle.crc.specs.Crc.{allOnes, crcBits, crcOver, crc32Of};
 ghost use Rattle.hrw.specs.Weight.{digestOf, flowDigestOf, weightOf};
 ghost use Rattle.hrw.specs.Ties.{TieExactly};
 
@@ -19,62 +23,117 @@ const INCREMENT: u64 = 12345;
 
 const MODULUS: u64 = 2147483648;
 
-// The CRC register after one octet more.
-fn crc_octet(state: u32, x: u8) -> u32
-    ensures { λ r. ⌜ r ≡ crcOctet state x ⌝ }
+// The CRC register after eight bits more of what is in it: an octet that is mixed into it already.
+fn crc_step(mixed: u32) -> u32
+    ensures { λ r. ⌜ r ≡ crcBits 8 mixed ⌝ }
 {
-    let mixed = state ^ (x as u32);
     (mixed / 256) ^ crc::after_octet(256 + mixed % 256)
 }
 
-// The CRC register after the octets of s, from any state of it.
-fn crc_over(state: u32, s: &[u8]) -> u32
-    ensures { λ r. ⌜ r ≡ crcOver state (now (s .entry)) ⌝ }
+// The CRC register after four octets that are mixed into it already, as one word, the first low. It is a loop so that the table is asked for in one place: the
+// compiler copies so large a `match` into one place alone.
+fn crc_word(mixed: u32) -> u32
+    ensures { λ r. ⌜ r ≡ crcBits 32 mixed ⌝ }
 {
-    let mut r = state;
-    let mut i = 0;
-    while i < s.len() {
-        r = crc_octet(r, s[i]);
+    let mut r = mixed;
+    let mut i: u32 = 0;
+    while i < 4 {
+        r = crc_step(r);
         i += 1;
     }
     r
 }
 
-// The CRC-32 of the octets of s.
+// The CRC register after the octets of s, four at a time, from any state of it.
+fn crc_words(state: u32, s: &[u8]) -> u32
+    requires { ⌜ length (now s) % 4 ≡ 0 ⌝ }
+    ensures { λ r. ⌜ r ≡ crcOver state (now (s .entry)) ⌝ }
+{
+    let mut r = state;
+    let mut i = 0;
+    while i + 3 < s.len() {
+        r = crc_word(r ^ octet_words::low_four(s, i));
+        i += 4;
+    }
+    r
+}
+
+// The CRC register after the octets of s, one at a time.
+fn crc_octets(state: u32, s: &[u8]) -> u32
+    ensures { λ r. ⌜ r ≡ crcOver state (now (s .entry)) ⌝ }
+{
+    let mut r = state;
+    let mut i = 0;
+    while i < s.len() {
+        r = crc_step(r ^ (s[i] as u32));
+        i += 1;
+    }
+    r
+}
+
+// The CRC-32 of the octets of s: whole words of them, then those that are left.
 pub fn crc32(s: &[u8]) -> u32
     ensures { λ r. ⌜ r ≡ crc32Of (now (s .entry)) ⌝ }
 {
-    crc_over(ALL_ONES, s) ^ ALL_ONES
+    let whole = s.len() / 4 * 4;
+    let words = crc_words(ALL_ONES, &s[0..whole]);
+    crc_octets(words, &s[whole..]) ^ ALL_ONES
 }
 
-// What every digest ends with: an Ethernet Tag's four octets, high first, then the identifier's ten.
-fn image(tag: u32, esi: [u8; 10]) -> [u8; 14]
-    ensures { λ r. ⌜ r ≡ octetsOf 4 tag ++ esi ⌝ }
+// What every digest ends with, an Ethernet Tag's four octets, high first, then the identifier's ten, as sixteen octets for an empty register: the state so far is
+// mixed into the tag, and before it are two zeros, which leave an empty register empty.
+fn padded(state: u32, tag: u32, esi: [u8; 10]) -> [u8; 16]
+    ensures { λ r. ⌜ r ≡ 0 ∷ 0 ∷ (lowOctets 4 (bitXor state (lowFirst (octetsOf 4 tag))) ++ esi) ⌝ }
 {
     let head = octets::of_u32(tag);
-    let mut s = [0; 14];
-    octets::store(&mut s, 0, &head);
-    octets::store(&mut s, 4, &esi);
-    s
+    let x = octet_words::of_low(state ^ octet_words::low_four(&head, 0));
+    [
+        0,
+        0,
+        x[0],
+        x[1],
+        x[2],
+        x[3],
+        esi[0],
+        esi[1],
+        esi[2],
+        esi[3],
+        esi[4],
+        esi[5],
+        esi[6],
+        esi[7],
+        esi[8],
+        esi[9],
+    ]
+}
+
+// The digest that the tag and the identifier end, from any state of the register.
+fn digest_from(state: u32, tag: u32, esi: [u8; 10]) -> u32
+    ensures { λ r. ⌜ r ≡ bitXor (crcOver state (octetsOf 4 tag ++ esi)) allOnes % 2 ^ 31 ⌝ }
+{
+    let s = padded(state, tag, esi);
+    (crc_words(0, &s) ^ ALL_ONES) % TOP_BIT
 }
 
 // The digest D of an Ethernet Tag on a segment: the CRC-32 of the tag's four octets, high first, then the identifier's ten, with the top bit dropped.
 pub fn digest(tag: u32, esi: [u8; 10]) -> u32
     ensures { λ r. ⌜ r ≡ digestOf tag esi ⌝ }
 {
-    let s = image(tag, esi);
-    crc32(&s) % TOP_BIT
+    digest_from(ALL_ONES, tag, esi)
 }
 
-// The digest of a multicast flow on a segment: that of the octets of S and of G, of any lengths, before those of the tag and the identifier. Of a flow (*,G), S is empty.
+// The digest of a multicast flow on a segment: that of the octets of S and of G before those of the tag and the identifier. Of a flow (*,G), S is empty, and nothing
+// is called for it.
 pub fn flow_digest(source: &[u8], group: &[u8], tag: u32, esi: [u8; 10]) -> u32
+    requires { ⌜ (length (now source) % 4 ≡ 0) × (length (now group) % 4 ≡ 0) ⌝ }
     ensures { λ r. ⌜ r ≡ flowDigestOf (now (source .entry) ++ now (group .entry)) tag esi ⌝ }
 {
-    let s = image(tag, esi);
-    let from_source = crc_over(ALL_ONES, source);
-    let from_group = crc_over(from_source, group);
-    let all = crc_over(from_group, &s);
-    (all ^ ALL_ONES) % TOP_BIT
+    let mut state = ALL_ONES;
+    if source.len() != 0 {
+        state = crc_words(state, source);
+    }
+    let after_group = crc_words(state, group);
+    digest_from(after_group, tag, esi)
 }
 
 // The weight of an address under any digest. Only the low 31 bits of what is multiplied second decide the result: with these the product fits.

@@ -91,7 +91,10 @@ module _ (k : tie.After-count) where
   places-in-use = set-in-use (table asked) (asked .pre .0 .sound) _ (list asked) _ (found .candidate-set .ensures)
 
 place-by-flow-requires : tie.Need-place-by-flow-requires
-place-by-flow-requires c κs = let k = c .before .before in (asked k .pre .0, k .before .if4 .left, places-in-use k)
+place-by-flow-requires c κs =
+    let k = c .before .before in
+    let words = asked k .pre .2 (not-false _ (right (found k) .if3 .left)) in
+    (asked k .pre .0, k .before .if4 .left, places-in-use k, words .0, words .1)
 
 returns-5 : tie.Need-returns-5
 returns-5 c q n g f =
