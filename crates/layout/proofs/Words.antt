@@ -28,6 +28,11 @@ pub standing-less : (e : Entry) → Narrow e → standingOf e < 131072
 unfolding standingOf
 standing-less e h = omega (arith, bit-less (e .dp), h)
 
+-- the algorithm in a kind
+pub kind-algorithm : (e : Entry) → kindOf e / 2 ≡ e .algorithm
+unfolding kindOf
+kind-algorithm e = omega (arith, bit-less (e .«ac_df»))
+
 module _ (e : Entry) (h : Narrow e) where
   kind-back : attributesOf e / 131072 ≡ kindOf e
   unfolding attributesOf
@@ -195,15 +200,8 @@ module _ (b : List ℕ) (h : Valid b) where
     pub attributes-kind : attributesOf (getD es i noEntry) / 131072 ≡ kindOf (getD es i noEntry)
     attributes-kind = kind-back (getD es i noEntry) (narrow-entry i)
 
-    kind-word : getD b (320 + i) 0 / 131072 ≡ kindOf (getD es i noEntry)
-    kind-word = ap (λ (w : ℕ). w / 131072) attributes-word ∙ attributes-kind
-
-    pub algorithm-word : getD b (320 + i) 0 / 131072 / 2 ≡ getD es i noEntry .algorithm
-    unfolding kindOf
-    algorithm-word = let e = getD es i noEntry in omega (arith, kind-word, bit-less (e .«ac_df»))
-
-    pub standing-word : getD b (320 + i) 0 % 131072 ≡ standingOf (getD es i noEntry)
-    standing-word = ap (λ (w : ℕ). w % 131072) attributes-word ∙ standing-back (getD es i noEntry) (narrow-entry i)
+    pub attributes-standing : attributesOf (getD es i noEntry) % 131072 ≡ standingOf (getD es i noEntry)
+    attributes-standing = standing-back (getD es i noEntry) (narrow-entry i)
 
   -- the identifier's words
   pub esi-words : drop 385 b ≡ identifierWords (table .esi)

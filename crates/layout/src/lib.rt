@@ -101,7 +101,7 @@ pub fn algorithm_at(t: &[u32], at: usize) -> u32
     requires { ⌜ Valid (now t) × (at < length (tableIn (now t) .entries)) ⌝ }
     ensures { λ r. ⌜ r ≡ getD (tableIn (now (t .entry)) .entries) at noEntry .algorithm ⌝ }
 {
-    t[ATTRIBUTES + at] / KIND / 2
+    kind_at(t, at) / 2
 }
 
 // The preference of the entry at a place and the DP bit behind it, as one number.
@@ -109,7 +109,7 @@ pub fn standing_at(t: &[u32], at: usize) -> u32
     requires { ⌜ Valid (now t) × (at < length (tableIn (now t) .entries)) ⌝ }
     ensures { λ r. ⌜ (r ≡ standingOf (getD (tableIn (now (t .entry)) .entries) at noEntry)) × (r < 131072) ⌝ }
 {
-    t[ATTRIBUTES + at] % KIND
+    attributes_at(t, at) % KIND
 }
 
 // What an entry says besides its address, as one word. A preference has 16 bits.

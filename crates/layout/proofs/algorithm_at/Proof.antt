@@ -1,15 +1,18 @@
 -- `algorithm_at` meets its contract. Assumes nothing.
-use native.Mathlib.Omega.{arith}
+use Prim.Native.Nat.{ℕ, _/_}
+use mathlib.Core.Path.{ap, _∙_}
 use borrow.Author.Needs.{needs}
-use Rattle.layout.proofs.Words.{length-valid, algorithm-word}
+use lib.ListN.{getD}
+use Rattle.layout.specs.Table.{noEntry}
+use Rattle.layout.specs.Words.{tableIn}
+use Rattle.layout.proofs.Words.{kind-algorithm}
 use Rattle.layout.proofs.algorithm_at.Statement.{statement}
 use Rattle.layout.proofs.algorithm_at.Tie as tie
 
-shared-slice-read-result : tie.Need-shared-slice-read-result
-shared-slice-read-result c = let start = c .before in omega (arith, length-valid (start .args .t .now) (start .pre .0), start .pre .0 .sound .short)
-
 returns : tie.Need-returns
-returns c = let start = c .before in algorithm-word (start .args .t .now) (start .pre .0) (start .args .at) (start .pre .1)
+returns c =
+    let start = c .before .before in
+    ap (λ (k : ℕ). k / 2) (c .kind-at .ensures) ∙ kind-algorithm (getD (tableIn (start .args .t .now) .entries) (start .args .at) noEntry)
 
 pub algorithm-at-spec : {M : Type 1} → statement M
-algorithm-at-spec = tie.close (tie.spec (λ c. search needs) (λ c. search needs) shared-slice-read-result returns)
+algorithm-at-spec = tie.close (tie.spec (λ c κs. search needs) returns)
