@@ -44,7 +44,8 @@ fn crc_word(mixed: u32) -> u32
     r
 }
 
-// The CRC register after the octets of s, four at a time, from any state of it.
+// The CRC register after the octets of s, four at a time, from any state of it. They are read here, and not by `octet_words::low_four`: so the compiler hands the slice over in
+// registers.
 fn crc_words(state: u32, s: &[u8]) -> u32
     requires { ⌜ length (now s) % 4 ≡ 0 ⌝ }
     ensures { λ r. ⌜ r ≡ crcOver state (now (s .entry)) ⌝ }
@@ -52,7 +53,7 @@ fn crc_words(state: u32, s: &[u8]) -> u32
     let mut r = state;
     let mut i = 0;
     while i + 3 < s.len() {
-        r = crc_word(r ^ octet_words::low_four(s, i));
+        r = crc_word(r ^ octets::u32_of(s[i + 3], s[i + 2], s[i + 1], s[i]));
         i += 4;
     }
     r

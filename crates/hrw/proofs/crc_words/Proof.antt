@@ -6,6 +6,7 @@ use borrow.Author.Needs.{needs}
 use lib.Bits.{bitXor}
 use lib.ListN.{length, drop}
 use Rattle.lists.proofs.Lists.{every-place}
+use Rattle.octet_words.proofs.Laws.{low-four-at}
 use Rattle.crc.specs.Crc.{crcBits, crcOver}
 use Rattle.hrw.proofs.Laws.{crcOver-four, crcOver-end}
 use Rattle.hrw.proofs.crc_words.Statement.{statement}
@@ -23,12 +24,12 @@ loop-holds c = (omega arith, refl, refl)
 loop-again : tie.Need-loop-again Inv-loop μ-loop
 loop-again c =
     let taken = c .before in
-    let turn = taken .before .before in
+    let turn = taken .before .before .before .before .before .before in
     let known = turn .before in
     let s = known .before .args .s .now in
     let l = turn .loop in
     let octets = every-place (λ (x : ℕ). x < 256) s 0 (λ j _. known .shared-slice-known .given j .fits) in
-    let word = c .crc-word .ensures ∙ ap (λ (w : ℕ). crcBits 32 (bitXor (l .r) w)) (taken .low-four .ensures) in
+    let word = c .crc-word .ensures ∙ ap (λ (w : ℕ). crcBits 32 (bitXor (l .r) w)) (low-four-at (l .i) _ s (omega arith) (taken .u32-of .ensures)) in
     (omega arith, omega arith, ap (λ (r : ℕ). crcOver r (drop (l .i + 4) s)) word ∙ sym (crcOver-four (l .r) s (l .i) octets (omega arith)) ∙ l .inv .2)
 
 returns : tie.Need-returns Inv-loop μ-loop
@@ -45,7 +46,14 @@ crc-words-spec =
     μ-loop
     loop-holds
     (λ c. omega arith)
-    (λ c κs. omega arith)
+    (λ c. omega arith)
+    (λ c. omega arith)
+    (λ c. omega arith)
+    (λ c. omega arith)
+    (λ c. omega arith)
+    (λ c. omega arith)
+    (λ c. omega arith)
+    (λ c κs. search needs)
     (λ c κs. search needs)
     (λ c. omega arith)
     (λ c. omega arith)
