@@ -350,7 +350,7 @@ impl Table {
             0 => nth(set, tag % n),
             2 => best_narrow(attributes, set, full, higher),
             3 => best_narrow(attributes, set, full, lower),
-            _ => self.heaviest::<R>(set, full, flow.digest(algorithm, tag, &self.esi)),
+            _ => self.heaviest::<R>(set, full, flow.digest::<true>(algorithm, tag, &self.esi)),
         };
         let (family, address) = self.number_at(place).answered();
         Answer {
@@ -692,7 +692,7 @@ impl Segment for Table {
 
     #[inline]
     fn digest(tag: u32, esi: &[u8; 10]) -> u32 {
-        octets::digest(tag, esi)
+        octets::digest::<true>(tag, esi)
     }
 
     #[inline]

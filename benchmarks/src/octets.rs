@@ -1,6 +1,7 @@
 //! What both baselines read from octets and words in the same way: addresses, the route's checks, the list of communities, the checks of an election, the
 //! algorithm numbers of the elections by flow, a range of tags, the digests and the weight.
-//! The CRC goes octet by octet through a static table of 256 entries, in both baselines.
+//! The CRC goes through a static table of 256 entries, one look for each octet: in the list octet by octet, as programs do it that take octets in as they come, and in
+//! the array with four octets mixed into the register at once, as one word.
 
 use crate::answer::{Address, Circuit, Family, Verdict, CIRCUIT_WORDS, RANGE_WORDS, ROW_WORDS};
 
@@ -126,12 +127,12 @@ impl Flow<'_> {
 
     /// The digest that routers are weighed by under an algorithm in use: 1, or the number of the flow's kind.
     #[inline(always)]
-    pub fn digest(self, algorithm: u8, tag: u32, esi: &[u8; 10]) -> u32 {
+    pub fn digest<const BY_WORD: bool>(self, algorithm: u8, tag: u32, esi: &[u8; 10]) -> u32 {
         if algorithm == 1 {
-            return digest(tag, esi);
+            return digest::<BY_WORD>(tag, esi);
         }
-        let crc = crc_fours(crc_fours(u32::MAX, self.source), self.group);
-        digest_after(crc, tag, esi)
+        let crc = crc_fours::<BY_WORD>(crc_fours::<BY_WORD>(u32::MAX, self.source), self.group);
+        digest_after::<BY_WORD>(crc, tag, esi)
     }
 }
 
@@ -295,25 +296,35 @@ fn read_community(one: &[u8]) -> Election {
 
 /// The digest D of a tag on a segment.
 #[inline]
-pub fn digest(tag: u32, esi: &[u8; 10]) -> u32 {
-    digest_after(u32::MAX, tag, esi)
+pub fn digest<const BY_WORD: bool>(tag: u32, esi: &[u8; 10]) -> u32 {
+    digest_after::<BY_WORD>(u32::MAX, tag, esi)
 }
 
 /// The digest from the CRC register on that a tag and an identifier find.
 #[inline(always)]
-fn digest_after(crc: u32, tag: u32, esi: &[u8; 10]) -> u32 {
+fn digest_after<const BY_WORD: bool>(crc: u32, tag: u32, esi: &[u8; 10]) -> u32 {
     let mut octets = [0; 14];
     octets[..4].copy_from_slice(&tag.to_be_bytes());
     octets[4..].copy_from_slice(esi);
-    !octets.into_iter().fold(crc, crc_octet) & LOW_31_BITS
+    let crc = if BY_WORD {
+        let (fours, two) = octets.split_at(12);
+        let mixed = crc_fours::<true>(crc, fours) ^ u32::from(u16::from_le_bytes([two[0], two[1]]));
+        crc_step(crc_step(mixed))
+    } else {
+        octets.into_iter().fold(crc, crc_octet)
+    };
+    !crc & LOW_31_BITS
 }
 
 /// The CRC register after octets whose number is a multiple of four.
 #[inline(always)]
-fn crc_fours(mut crc: u32, octets: &[u8]) -> u32 {
+fn crc_fours<const BY_WORD: bool>(mut crc: u32, octets: &[u8]) -> u32 {
     for four in octets.as_chunks::<4>().0 {
-        for octet in four {
-            crc = crc_octet(crc, *octet);
+        if BY_WORD {
+            let mixed = crc ^ u32::from_le_bytes(*four);
+            crc = crc_step(crc_step(crc_step(crc_step(mixed))));
+        } else {
+            crc = four.iter().fold(crc, |crc, octet| crc_octet(crc, *octet));
         }
     }
     crc
@@ -322,7 +333,13 @@ fn crc_fours(mut crc: u32, octets: &[u8]) -> u32 {
 /// The CRC register after one octet more.
 #[inline(always)]
 fn crc_octet(crc: u32, octet: u8) -> u32 {
-    (crc >> 8) ^ CRC_TABLE[usize::from(crc as u8 ^ octet)]
+    crc_step(crc ^ u32::from(octet))
+}
+
+/// The CRC register after an octet that is mixed into it already.
+#[inline(always)]
+fn crc_step(mixed: u32) -> u32 {
+    (mixed >> 8) ^ CRC_TABLE[usize::from(mixed as u8)]
 }
 
 /// The weight of an address under a digest, by the address's low word: only the low 31 bits of each product count.
