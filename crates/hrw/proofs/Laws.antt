@@ -193,9 +193,17 @@ step-mod : (n : ℕ) → step n % 2 ^ 31 ≡ step (n % 2 ^ 31) % 2 ^ 31
 step-mod = linear-mod 1103515245 12345 (2 ^ 31)
 
 -- the formula with what enters the second product reduced
-pub weightOf-reduced : (a d : ℕ) → weightOf a d ≡ step (bitXor (step a) d % 2 ^ 31) % 2 ^ 31
+weightOf-reduced : (a d : ℕ) → weightOf a d ≡ step (bitXor (step a) d % 2 ^ 31) % 2 ^ 31
 unfolding weightOf
 weightOf-reduced a d = step-mod (bitXor (step a) d)
+
+-- the formula doubled, with what enters the second product reduced to a word
+step-doubled : (n : ℕ) → (2207030490 * n + 24690) % 2 ^ 32 ≡ 2 * (step n % 2 ^ 31)
+step-doubled n = omega arith
+
+pub weightOf-doubled : (a d : ℕ) → (2207030490 * (bitXor (step a) d % 2 ^ 32) + 24690) % 2 ^ 32 ≡ 2 * weightOf a d
+unfolding weightOf
+weightOf-doubled a d = let n = bitXor (step a) d in sym (linear-mod 2207030490 24690 (2 ^ 32) n) ∙ step-doubled n
 
 -- only the low 31 bits of an address count
 pub weightOf-low : (a d : ℕ) → weightOf a d ≡ weightOf (a % 2 ^ 31) d

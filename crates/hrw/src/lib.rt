@@ -1,7 +1,7 @@
 // Highest random weight (HRW): CRC-32, the digest of an Ethernet Tag on a segment, and the weight of an address.
 ghost use mathlib.Core.Path.{_≡_};
 ghost use mathlib.Core.List.{_∷_, _++_};
-ghost use Prim.Native.Nat.{_%_, _^_};
+ghost use Prim.Native.Nat.{_*_, _/_, _%_, _^_};
 ghost use lib.ListN.{length};
 ghost use lib.Bits.{bitXor};
 ghost use Rattle.octets.specs.Octets.{octetsOf};
@@ -16,12 +16,16 @@ const ALL_ONES: u32 = 0xFFFF_FFFF;
 // The top bit of a CRC, which a digest drops: what is left is below it.
 const TOP_BIT: u32 = 0x8000_0000;
 
-// The weight's multiplier, increment and modulus, 2^31.
+// The weight's multiplier and increment, and twice each: a weight doubled is taken modulo 2^32, the double of the weight's modulus.
 const MULTIPLIER: u64 = 1103515245;
 
 const INCREMENT: u64 = 12345;
 
-const MODULUS: u64 = 2147483648;
+const TWICE_MULTIPLIER: u64 = 2207030490;
+
+const TWICE_INCREMENT: u64 = 24690;
+
+const WORD: u64 = 4294967296;
 
 // The CRC register after eight bits more of what is in it: an octet that is mixed into it already.
 fn crc_step(mixed: u32) -> u32
@@ -137,11 +141,11 @@ pub fn flow_digest(source: &[u8], group: &[u8], tag: u32, esi: [u8; 10]) -> u32
     digest_from(after_group, tag, esi)
 }
 
-// The weight of an address under any digest. Only the low 31 bits of what is multiplied second decide the result: with these the product fits.
-pub fn weight(address: u32, digest: u32) -> u32
-    ensures answer { λ r. ⌜ r ≡ weightOf address digest ⌝ }
-    ensures ties { λ r. ⌜ TieExactly address digest r ⌝ }
+// Twice the weight of an address under any digest: a word full, so that no bit is left to cut off. Weights doubled stand in the order of the weights.
+pub fn doubled_weight(address: u32, digest: u32) -> u32
+    ensures answer { λ r. ⌜ r ≡ 2 * weightOf address digest ⌝ }
+    ensures ties { λ r. ⌜ TieExactly address digest (r / 2) ⌝ }
 {
     let mixed = (MULTIPLIER * (address as u64) + INCREMENT) ^ (digest as u64);
-    ((MULTIPLIER * (mixed % MODULUS) + INCREMENT) % MODULUS) as u32
+    ((TWICE_MULTIPLIER * (mixed % WORD) + TWICE_INCREMENT) % WORD) as u32
 }

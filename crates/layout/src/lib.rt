@@ -61,16 +61,24 @@ pub fn words_at(t: &[u32], at: usize) -> [u32; 4]
     [t[start + 1], t[start + 2], t[start + 3], t[start + 4]]
 }
 
+// The low 32 bits of the address at a place, whose family is handed in.
+pub fn low_word_in(t: &[u32], at: usize, family: u8) -> u32
+    requires { ⌜ Valid (now t) × (at < length (tableIn (now t) .entries)) × (family ≡ familyOf (getD (tableIn (now t) .entries) at noEntry .address)) ⌝ }
+    ensures { λ r. ⌜ r ≡ addressNumber (getD (tableIn (now (t .entry)) .entries) at noEntry .address) % 2 ^ 32 ⌝ }
+{
+    let start = address::WIDTH * at;
+    if family == 4 {
+        return t[start + 1];
+    }
+    t[start + 4]
+}
+
 // The low 32 bits of the address at a place: all that the weight of an address asks for.
 pub fn low_word_at(t: &[u32], at: usize) -> u32
     requires { ⌜ Valid (now t) × (at < length (tableIn (now t) .entries)) ⌝ }
     ensures { λ r. ⌜ r ≡ addressNumber (getD (tableIn (now (t .entry)) .entries) at noEntry .address) % 2 ^ 32 ⌝ }
 {
-    let start = address::WIDTH * at;
-    if t[start] == 4 {
-        return t[start + 1];
-    }
-    t[start + 4]
+    low_word_in(t, at, family_at(t, at))
 }
 
 // What the entry at a place says besides its address, as the word that it is kept as.

@@ -1,7 +1,7 @@
 -- The order of candidates by score and address is document 01's order, and document 01's order tells addresses apart. Assumes nothing.
 use Prim.Native.Nat.{ℕ, _+_, _-_, _*_, _<_}
 use native.Mathlib.Omega.{arith}
-use mathlib.Core.Path.{_≡_, refl, ap₂, _∙_, sym}
+use mathlib.Core.Path.{_≡_, ap₂, _∙_, sym}
 use mathlib.Core.Bool.{Bool, true, false, cond, not, _&&_}
 use lib.Dec.{ltb, eqb}
 use borrow.Author.Tests.{lt-ltb, le-ltb}
@@ -64,16 +64,26 @@ from-above p q h k =
     (λ l. lt-ltb p q l ∙ sym (lt-ltb (65535 - q) (65535 - p) (omega arith)))
     (λ l. le-ltb p q l ∙ sym (le-ltb (65535 - q) (65535 - p) (omega arith)))
 
+-- numbers doubled stand as the numbers
+doubled : (m n : ℕ) → ltb m n ≡ ltb (2 * m) (2 * n)
+doubled m n =
+    either m n
+    (λ l. lt-ltb m n l ∙ sym (lt-ltb (2 * m) (2 * n) (omega arith)))
+    (λ l. le-ltb m n l ∙ sym (le-ltb (2 * m) (2 * n) (omega arith)))
+
 pub better-score : (a d : ℕ) (x y : Entry) → Narrow x → Narrow y → better a d x y ≡ byScore (scoreOf a d) entryKey x y
 unfolding better scoreOf
 better-score a d x y h k = go (eqb a 1) (eqb a 3)
   where
     go : (b c : Bool) → cond b (byWeight d) (byPreference c) x y
         ≡ decided
-        (ltb (cond b (weightOf (addressNumber (y .address)) d) (withBit (cond c (65535 - y .preference) (y .preference)) (y .dp))) (cond b (weightOf (addressNumber (x .address)) d) (withBit (cond c (65535 - x .preference) (x .preference)) (x .dp))))
-        (ltb (cond b (weightOf (addressNumber (x .address)) d) (withBit (cond c (65535 - x .preference) (x .preference)) (x .dp))) (cond b (weightOf (addressNumber (y .address)) d) (withBit (cond c (65535 - y .preference) (y .preference)) (y .dp))))
+        (ltb (cond b (2 * weightOf (addressNumber (y .address)) d) (withBit (cond c (65535 - y .preference) (y .preference)) (y .dp))) (cond b (2 * weightOf (addressNumber (x .address)) d) (withBit (cond c (65535 - x .preference) (x .preference)) (x .dp))))
+        (ltb (cond b (2 * weightOf (addressNumber (x .address)) d) (withBit (cond c (65535 - x .preference) (x .preference)) (x .dp))) (cond b (2 * weightOf (addressNumber (y .address)) d) (withBit (cond c (65535 - y .preference) (y .preference)) (y .dp))))
         (ltb (entryKey x) (entryKey y))
-    go true c = refl
+    go true c =
+        let m = weightOf (addressNumber (x .address)) d in
+        let n = weightOf (addressNumber (y .address)) d in
+        ap₂ (λ (s t : Bool). decided s t (ltb (entryKey x) (entryKey y))) (doubled n m) (doubled m n)
     go false true =
         ap₂ (λ (s t : Bool). decided s t (decided (x .dp && not (y .dp)) (y .dp && not (x .dp)) (ltb (entryKey x) (entryKey y))))
         (from-above (x .preference) (y .preference) h k) (from-above (y .preference) (x .preference) k h)

@@ -14,7 +14,7 @@ use Rattle.winner.proofs.best.Tie as tie
 returns : tie.Need-returns
 returns c =
     let a = c .before .before .before .args in
-    best-as (tableIn (now (a .t)) .entries) (a .set) 1 (a .digest) (a .algorithm) (a .digest) (ap (λ (x : ℕ). better x (a .digest)) (sym (c .before .if1 .taken))) (c .best-under .ensures)
+    best-as (tableIn (now (a .t)) .entries) (a .set) 1 (a .digest) (a .algorithm) (a .digest) (ap (λ (x : ℕ). better x (a .digest)) (sym (c .before .if1 .taken))) (c .heaviest .ensures)
 
 returns-2 : tie.Need-returns-2
 returns-2 c =

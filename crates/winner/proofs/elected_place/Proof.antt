@@ -1,7 +1,4 @@
 -- `elected_place` meets its contract. Assumes nothing.
-use Prim.Native.Nat.{_<_, _^_}
-use native.Mathlib.Nat.{lt-of-lt-of-le}
-use lib.Pow.{pow-mono}
 use borrow.Author.Needs.{needs}
 use denote.Ref.{now}
 use Rattle.layout.specs.Words.{tableIn}
@@ -9,21 +6,17 @@ use Rattle.winner.proofs.Laws.{remainder-there, elected-nth, elected-be
 use Rattle.winner.proofs.elected_place.Statement.{statement}
 use Rattle.winner.proofs.elected_place.Tie as tie
 
--- a set of places in use fits
-fits : (s : tie.Start) → s .args .set < 2 ^ 64
-fits s = lt-of-lt-of-le (s .pre .2) (pow-mono (s .pre .0 .sound .short))
-
 rem-nth : tie.Need-rem-nth
 rem-nth c =
     let s = c .before .before in
     let h = s .pre .0 .sound in
-    remainder-there (tableIn (now (s .args .t)) .entries) (h .short) (h .rising) (s .args .set) (s .args .algorithm) (s .args .tag) (s .args .digest) (s .pre .2) (fits s) (s .pre .1) _ (s .pre .3)
+    remainder-there (tableIn (now (s .args .t)) .entries) (h .short) (h .rising) (s .args .set) (s .args .algorithm) (s .args .tag) (s .args .digest) (s .pre .2) (s .pre .1) _ (s .pre .3)
 
 returns : tie.Need-returns
 returns c =
     let s = c .before .before .before in
     let h = s .pre .0 .sound in
-    elected-nth (tableIn (now (s .args .t)) .entries) (h .short) (h .rising) (s .args .set) (s .args .algorithm) (s .args .tag) (s .args .digest) (s .pre .2) (fits s) (s .pre .1) _ _ (c .before .if1 .taken) (s .pre .3) (c .nth .ensures)
+    elected-nth (tableIn (now (s .args .t)) .entries) (h .short) (h .rising) (s .args .set) (s .args .algorithm) (s .args .tag) (s .args .digest) (s .pre .2) (s .pre .1) _ _ (c .before .if1 .taken) (s .pre .3) (c .nth .ensures)
 
 returns-2 : tie.Need-returns-2
 returns-2 c =
