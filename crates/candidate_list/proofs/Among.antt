@@ -20,9 +20,9 @@ use Rattle.candidate_list.specs.Candidates.{backupUnder}
 use Rattle.candidate_list.proofs.Orders.{backup-digest}
 
 -- ALL PLACES IN USE
-module _ (es : List Entry) (short : length es ≤ 64) (n s : ℕ) (z : n ≡ length es) (q : s ≡ setOf (replicate (min n 64) true)) where
+module _ (es : List Entry) (short : length es ≤ 64) (n s : ℕ) (z : n ≡ length es) (q : s ≡ setOf (replicate n true)) where
   is-all : s ≡ setOf (replicate (length es) true)
-  is-all = let m : min n 64 ≡ length es = omega arith in q ∙ ap (λ (k : ℕ). setOf (replicate k true)) m
+  is-all = q ∙ ap (λ (k : ℕ). setOf (replicate k true)) z
 
   pub all-under : s < 2 ^ length es
   all-under = rw is-all (subst (λ (k : ℕ). setOf (replicate (length es) true) < 2 ^ k) (length-replicate (length es) true) (setOf-lt (replicate (length es) true)))

@@ -38,13 +38,13 @@ pub fn plain_algorithm(settings: &[u32], tag: u32, in_use: u8) -> u8
 }
 
 // Whether the algorithm in use is a number that is set; 0 is none.
-fn agreed_on(in_use: u8, number: u32) -> bool
+fn agreed_on(in_use: u8, number: u8) -> bool
     ensures { λ r. ⌜ r ≡ agreedOn «in_use» number ⌝ }
 {
     if number == 0 {
         return false;
     }
-    in_use as u32 == number
+    in_use == number
 }
 
 // Elects for a query of any kind: `number` is the one that is set for its kind, or 0; `right` tells whether the addresses of its flow, S and G, have right
@@ -53,7 +53,7 @@ fn agreed_on(in_use: u8, number: u32) -> bool
 pub fn elect_query(
     t: &[u32],
     settings: &[u32],
-    number: u32,
+    number: u8,
     right: bool,
     source: &[u8],
     group: &[u8],

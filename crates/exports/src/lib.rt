@@ -8,7 +8,6 @@ ghost use Rattle.ready.specs.Ready.{readyIn};
 ghost use Rattle.table.specs.Table.{freshTable, announced, withdrawn};
 ghost use Rattle.settings.specs.Settings.{rangesGiven};
 ghost use Rattle.segment_state.specs.State.{freshSegment, segmentIn, ValidSegment, SegmentTold, SetTold};
-ghost use Rattle.hrw.specs.Weight.{digestOf};
 ghost use Rattle.election.specs.Queries.{plain, electWith};
 ghost use Rattle.returning.specs.Returning.{returningWith};
 ghost use Rattle.export_forms.specs.Forms.{exportedAnswer, handedIn};
@@ -115,12 +114,4 @@ pub extern "C" fn segment_returning(
         preference: told.preference,
         dp: told.dp,
     }
-}
-
-// `hrw::digest`.
-#[no_mangle]
-pub extern "C" fn segment_digest(tag: u32, esi: &[u8; 10]) -> u32
-    ensures { λ r. ⌜ r ≡ digestOf tag (now (esi .entry)) ⌝ }
-{
-    hrw::digest(tag, *esi)
 }

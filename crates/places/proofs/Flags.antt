@@ -1,13 +1,13 @@
 -- Laws of sets that are made of flags, and of what they pick from a list.
 -- Assumes nothing.
-use Prim.Native.Nat.{ℕ, zero, suc, _+_, _-_, _*_, _/_, _%_, _^_, _≤_, _<_, min, max}
+use Prim.Native.Nat.{ℕ, zero, suc, _+_, _-_, _*_, _/_, _%_, _^_, _≤_, _<_, max}
 use native.Mathlib.Nat.{le-of-suc-le-suc, not-suc-le-zero, le-refl, zero-add, max-zero, div-one, two-pow-succ, div-add-mod', mul-le-mul-right}
 use native.Mathlib.Omega.{arith}
 use mathlib.Core.Path.{_≡_, refl, ap, sym, _∙_}
 use mathlib.Core.Bool.{Bool, true, false, cond}
 use mathlib.Core.List.{List, [], _∷_, _++_, map}
 use lib.ListN.{length, getD, set, replicate, length-append, length-map, List·getD-map, List·getD-eq-default}
-use lib.Pow.{pow-pos, shr-shr}
+use lib.Pow.{pow-pos, shr-shr, high, ones-lt, ones-split}
 use lib.Bits.{bitOr, or-step, or-zero-r}
 use borrow.Author.Tests.{lt-ltb, le-ltb, eq-eqb, ne-eqb}
 use Rattle.places.specs.Places.{placesFrom, places, setOf, picked, withPlace, withoutPlace}
@@ -19,7 +19,7 @@ abbrev pub truesFrom : ℕ → List Bool → List ℕ
 truesFrom i [] = []
 truesFrom i (b ∷ bs) = cond b (i ∷ []) [] ++ truesFrom (suc i) bs
 
-setOf-none : setOf [] ≡ 0
+pub setOf-none : setOf [] ≡ 0
 unfolding setOf
 setOf-none = refl
 
@@ -78,9 +78,14 @@ pub setOf-trues : (n : ℕ) → setOf (replicate n true) ≡ 2 ^ n - 1
 setOf-trues zero = setOf-none
 setOf-trues (suc n) = rw (setOf-true (replicate n true), setOf-trues n) (omega (arith, pow-pos n))
 
--- the places below n, m of them: no more than 64
-pub setOf-below : (n m : ℕ) → min n 64 ≡ m → setOf (replicate (min n 64) true) ≡ 2 ^ m - 1
-setOf-below n m e = setOf-trues (min n 64) ∙ ap (λ (k : ℕ). 2 ^ k - 1) e
+-- the places below n: all ones, shifted down to n of them
+pub ones-below : (n : ℕ) → n ≤ 64 → (2 ^ 64 - 1) / 2 ^ (64 - n) ≡ setOf (replicate n true)
+ones-below n h =
+    let e : 64 ≡ n + (64 - n) = omega arith in
+    ap (λ (m : ℕ). (2 ^ m - 1) / 2 ^ (64 - n)) e
+    ∙ ap (λ (m : ℕ). m / 2 ^ (64 - n)) (ones-split n (64 - n))
+    ∙ high (2 ^ n - 1) (64 - n) (ones-lt (64 - n))
+    ∙ sym (setOf-trues n)
 
 max-one : (b : Bool) → max (cond b 1 0) 1 ≡ 1
 max-one false = refl

@@ -1,7 +1,7 @@
 // Sets of places 0 to 63 as the bits of a u64: counted by their ones, and walked from the lowest place up by trailing zeros; `place_runs` walks them run by run.
 // The answer 64 stands for "no place".
 ghost use mathlib.Core.Path.{_≡_};
-ghost use Prim.Native.Nat.{_<_, min};
+ghost use Prim.Native.Nat.{_≤_, _<_};
 ghost use mathlib.Core.Bool.{true};
 ghost use lib.ListN.{length, getD, drop, replicate};
 ghost use lib.Count.{ones};
@@ -39,14 +39,15 @@ pub fn rest(s: u64) -> u64
     s & (s - 1)
 }
 
-// The set of the places 0 to n - 1; all 64 places for an n of 64 or more.
+// The set of the places 0 to n - 1: all ones, shifted down to n of them.
 pub fn below(n: usize) -> u64
-    ensures { λ r. ⌜ r ≡ setOf (replicate (min n 64) true) ⌝ }
+    requires { ⌜ n ≤ 64 ⌝ }
+    ensures { λ r. ⌜ r ≡ setOf (replicate n true) ⌝ }
 {
-    if n >= PLACES {
-        return ALL;
+    if n == 0 {
+        return 0;
     }
-    (1 << n) - 1
+    ALL >> (PLACES - n)
 }
 
 // The set s with the place i.

@@ -117,11 +117,10 @@ pub set-ready : (ready : List (List ℕ)) (l : List Entry) (ac : Bool) → ac �
 unfolding candidateSet eligible
 set-ready ready l ac b = rw b
 
-pub set-all : (ready : List (List ℕ)) (l : List Entry) (ac : Bool) (n : ℕ) → ac ≡ false → n ≡ length l → length l ≤ 64 → setOf (replicate (min n 64) true) ≡ candidateSet ac ready l
+pub set-all : (ready : List (List ℕ)) (l : List Entry) (ac : Bool) (n : ℕ) → ac ≡ false → n ≡ length l → setOf (replicate n true) ≡ candidateSet ac ready l
 unfolding candidateSet eligible
-set-all ready l ac n b e h =
-    let m : min n 64 ≡ length l = omega arith in
-    rw (m, b) (ap setOf (all l))
+set-all ready l ac n b e =
+    rw (e, b) (ap setOf (all l))
   where
     all : (m : List Entry) → replicate (length m) true ≡ map (λ (x : Entry). true) m
     all [] = refl

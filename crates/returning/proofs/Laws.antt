@@ -33,12 +33,12 @@ picked-dropAt [] i h = absurd (not-suc-le-zero h)
 picked-dropAt (x ∷ l) zero h = picked-all l
 picked-dropAt (x ∷ l) (suc i) h = ap (x ∷_) (picked-dropAt l i (omega arith))
 
-module _ (es : List Entry) (short : length es ≤ 64) (rising : Rising entryKey 1 es) (a : List ℕ) (n all : ℕ) (z : n ≡ length es) (q : all ≡ setOf (replicate (min n 64) true)) where
+module _ (es : List Entry) (short : length es ≤ 64) (rising : Rising entryKey 1 es) (a : List ℕ) (n all : ℕ) (z : n ≡ length es) (q : all ≡ setOf (replicate n true)) where
   abbrev Others : ℕ → Type 0
   Others s = (s < 2 ^ length es) × (entriesAt es (places s) ≡ others a es)
 
   is-all : all ≡ setOf (replicate (length es) true)
-  is-all = let m : min n 64 ≡ length es = omega arith in q ∙ ap (λ (k : ℕ). setOf (replicate k true)) m
+  is-all = q ∙ ap (λ (k : ℕ). setOf (replicate k true)) z
 
   others-of : (bs : List Bool) (s : ℕ) → length bs ≡ length es → s ≡ setOf bs → picked bs es ≡ others a es → Others s
   others-of bs s l e p =

@@ -209,3 +209,13 @@ is-set-bounds s r a h = go (r .numbers)
         let p = may-be-set-parts (s .sourceGroup) (s .anySource) e in
         let q = one-set s a h in
         ⊎-elim (λ f. rw f (in-range-bounds (s .sourceGroup) (p .0))) (λ f. rw f (in-range-bounds (s .anySource) (p .1))) q
+
+-- so both numbers are octets
+pub numbers-octets : (s : Settings) → SettingsRight s → (s .sourceGroup < 256) × (s .anySource < 256)
+numbers-octets s r = go (r .numbers)
+  where
+    go : ((s .sourceGroup ≡ 0) × (s .anySource ≡ 0)) ⊎ (mayBeSet (s .sourceGroup) (s .anySource) ≡ true) → (s .sourceGroup < 256) × (s .anySource < 256)
+    go (inl (x, y)) = (omega arith, omega arith)
+    go (inr e) =
+        let p = may-be-set-parts (s .sourceGroup) (s .anySource) e in
+        (omega (arith, in-range-bounds (s .sourceGroup) (p .0)), omega (arith, in-range-bounds (s .anySource) (p .1)))

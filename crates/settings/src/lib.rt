@@ -77,19 +77,19 @@ pub fn set_ranges(s: &mut [u32], run: &[u32]) -> u8
 }
 
 // The number set for (S,G), or 0.
-pub fn source_group(s: &[u32]) -> u32
+pub fn source_group(s: &[u32]) -> u8
     requires { ⌜ ValidSettings (now s) ⌝ }
     ensures { λ r. ⌜ r ≡ settingsIn (now (s .entry)) .sourceGroup ⌝ }
 {
-    s[SOURCE_GROUP]
+    s[SOURCE_GROUP] as u8
 }
 
 // The number set for (*,G), or 0.
-pub fn any_source(s: &[u32]) -> u32
+pub fn any_source(s: &[u32]) -> u8
     requires { ⌜ ValidSettings (now s) ⌝ }
     ensures { λ r. ⌜ r ≡ settingsIn (now (s .entry)) .anySource ⌝ }
 {
-    s[ANY_SOURCE]
+    s[ANY_SOURCE] as u8
 }
 
 // Whether an algorithm is one of the two numbers set.

@@ -62,7 +62,7 @@ backup-of-spec =
     returns-3
     (λ c. search needs)
     (λ c κs. search needs)
-    (λ c κs. search needs)
+    (λ c κs. omega (arith, c .count .ensures, c .before .before .before .before .before .before .pre .0 .sound .short))
     (λ c. search needs)
     backup-among-requires
     returns-4)

@@ -1,4 +1,5 @@
 -- `circuit_candidates` meets its contract. Assumes nothing.
+use native.Mathlib.Omega.{arith}
 use mathlib.Core.Path.{_∙_}
 use borrow.Author.Needs.{needs}
 use Rattle.layout.specs.Words.{tableIn}
@@ -20,7 +21,7 @@ returns-2 c =
     let start = c .before .before .before .before .before in
     let a = start .args in
     let es = tableIn (a .t .now) .entries in
-    c .below .ensures ∙ set-all (readyRouters (circuitsIn (a .circuits .now)) (a .tag) es) es _ _ (c .before .before .if1 .left) (c .before .count .ensures) (start .pre .0 .sound .short)
+    c .below .ensures ∙ set-all (readyRouters (circuitsIn (a .circuits .now)) (a .tag) es) es _ _ (c .before .before .if1 .left) (c .before .count .ensures)
 
 pub circuit-candidates-spec : {M : Type 1} → statement M
-circuit-candidates-spec = tie.close (tie.spec (λ c κs. search needs) returns (λ c κs. search needs) (λ c κs. search needs) returns-2)
+circuit-candidates-spec = tie.close (tie.spec (λ c κs. search needs) returns (λ c κs. search needs) (λ c κs. omega (arith, c .count .ensures, c .before .before .before .before .pre .0 .sound .short)) returns-2)

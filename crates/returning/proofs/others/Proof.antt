@@ -1,4 +1,5 @@
 -- `others` meets its contract. Assumes nothing.
+use native.Mathlib.Omega.{arith}
 use mathlib.Core.Path.{sym, _∙_}
 use borrow.Author.Needs.{needs}
 use denote.Ref.{now}
@@ -30,7 +31,7 @@ others-spec =
     tie.close
     (tie.spec
     (λ c κs. search needs)
-    (λ c κs. search needs)
+    (λ c κs. omega (arith, c .count .ensures, c .before .before .pre .sound .short))
     (λ c κs. search needs)
     (λ c. search needs)
     (λ c. search needs)
