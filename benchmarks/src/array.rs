@@ -299,8 +299,8 @@ impl Table {
     fn heaviest<Caller>(&self, set: u64, full: bool, digest: u32) -> usize {
         let fours = &self.v4.numbers[..self.v4.count.min(MAX_ROUTES)];
         let sixes = &self.v6.numbers[..self.v6.count.min(MAX_ROUTES)];
-        let of_four = |number: u32| octets::weight(number, digest);
-        let of_six = |number: u128| octets::weight(number as u32, digest);
+        let of_four = |number: u32| octets::doubled_weight(number, digest);
+        let of_six = |number: u128| octets::doubled_weight(number as u32, digest);
         if sixes.is_empty() {
             return best(fours, set, full, of_four).0;
         }
@@ -350,7 +350,7 @@ impl Table {
             0 => nth(set, tag % n),
             2 => best_narrow(attributes, set, full, higher),
             3 => best_narrow(attributes, set, full, lower),
-            _ => self.heaviest::<R>(set, full, flow.digest::<true>(algorithm, tag, &self.esi)),
+            _ => self.heaviest::<R>(set, full, flow.digest(algorithm, tag, &self.esi)),
         };
         let (family, address) = self.number_at(place).answered();
         Answer {
@@ -692,7 +692,7 @@ impl Segment for Table {
 
     #[inline]
     fn digest(tag: u32, esi: &[u8; 10]) -> u32 {
-        octets::digest::<true>(tag, esi)
+        octets::digest(tag, esi)
     }
 
     #[inline]

@@ -157,10 +157,10 @@ impl List {
             2 => self.walk(first, is_ready, |route| keep::<false>(&mut best, route)),
             3 => self.walk(first, is_ready, |route| keep::<true>(&mut best, route)),
             _ => {
-                let digest = flow.digest::<false>(algorithm, tag, &self.esi);
+                let digest = flow.digest(algorithm, tag, &self.esi);
                 let mut top = 0;
                 self.walk(first, is_ready, |route| {
-                    let weight = octets::weight(route.key.address().low_word(), digest);
+                    let weight = octets::doubled_weight(route.key.address().low_word(), digest);
                     if best.is_none() || weight > top {
                         (best, top) = (Some(route), weight);
                     }
@@ -456,7 +456,7 @@ impl Segment for List {
 
     #[inline]
     fn digest(tag: u32, esi: &[u8; 10]) -> u32 {
-        octets::digest::<false>(tag, esi)
+        octets::digest(tag, esi)
     }
 
     #[inline]

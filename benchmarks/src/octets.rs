@@ -1,7 +1,6 @@
 //! What both baselines read from octets and words in the same way: addresses, the route's checks, the list of communities, the checks of an election, the
 //! algorithm numbers of the elections by flow, a range of tags, the digests and the weight.
-//! The CRC goes through a static table of 256 entries, one look for each octet: in the list octet by octet, as programs do it that take octets in as they come, and in
-//! the array with four octets mixed into the register at once, as one word.
+//! The CRC goes through a static table of 256 entries, one look for each octet, with four octets mixed into the register at once as one word, in both baselines.
 
 use crate::answer::{Address, Circuit, Family, Verdict, CIRCUIT_WORDS, RANGE_WORDS, ROW_WORDS};
 
@@ -14,6 +13,7 @@ const TOO_MANY_READY: usize = (MAX_READY + 1) * ROW_WORDS;
 
 const MAX_COMMUNITIES: usize = 256;
 const MULTIPLIER: u32 = 1_103_515_245;
+const TWICE_MULTIPLIER: u32 = 2_207_030_490;
 const INCREMENT: u32 = 12_345;
 const LOW_31_BITS: u32 = 0x7FFF_FFFF;
 
@@ -127,12 +127,12 @@ impl Flow<'_> {
 
     /// The digest that routers are weighed by under an algorithm in use: 1, or the number of the flow's kind.
     #[inline(always)]
-    pub fn digest<const BY_WORD: bool>(self, algorithm: u8, tag: u32, esi: &[u8; 10]) -> u32 {
+    pub fn digest(self, algorithm: u8, tag: u32, esi: &[u8; 10]) -> u32 {
         if algorithm == 1 {
-            return digest::<BY_WORD>(tag, esi);
+            return digest(tag, esi);
         }
-        let crc = crc_fours::<BY_WORD>(crc_fours::<BY_WORD>(u32::MAX, self.source), self.group);
-        digest_after::<BY_WORD>(crc, tag, esi)
+        let crc = crc_fours(crc_fours(u32::MAX, self.source), self.group);
+        digest_after(crc, tag, esi)
     }
 }
 
@@ -296,44 +296,29 @@ fn read_community(one: &[u8]) -> Election {
 
 /// The digest D of a tag on a segment.
 #[inline]
-pub fn digest<const BY_WORD: bool>(tag: u32, esi: &[u8; 10]) -> u32 {
-    digest_after::<BY_WORD>(u32::MAX, tag, esi)
+pub fn digest(tag: u32, esi: &[u8; 10]) -> u32 {
+    digest_after(u32::MAX, tag, esi)
 }
 
 /// The digest from the CRC register on that a tag and an identifier find.
 #[inline(always)]
-fn digest_after<const BY_WORD: bool>(crc: u32, tag: u32, esi: &[u8; 10]) -> u32 {
+fn digest_after(crc: u32, tag: u32, esi: &[u8; 10]) -> u32 {
     let mut octets = [0; 14];
     octets[..4].copy_from_slice(&tag.to_be_bytes());
     octets[4..].copy_from_slice(esi);
-    let crc = if BY_WORD {
-        let (fours, two) = octets.split_at(12);
-        let mixed = crc_fours::<true>(crc, fours) ^ u32::from(u16::from_le_bytes([two[0], two[1]]));
-        crc_step(crc_step(mixed))
-    } else {
-        octets.into_iter().fold(crc, crc_octet)
-    };
-    !crc & LOW_31_BITS
+    let (fours, two) = octets.split_at(12);
+    let mixed = crc_fours(crc, fours) ^ u32::from(u16::from_le_bytes([two[0], two[1]]));
+    !crc_step(crc_step(mixed)) & LOW_31_BITS
 }
 
 /// The CRC register after octets whose number is a multiple of four.
 #[inline(always)]
-fn crc_fours<const BY_WORD: bool>(mut crc: u32, octets: &[u8]) -> u32 {
+fn crc_fours(mut crc: u32, octets: &[u8]) -> u32 {
     for four in octets.as_chunks::<4>().0 {
-        if BY_WORD {
-            let mixed = crc ^ u32::from_le_bytes(*four);
-            crc = crc_step(crc_step(crc_step(crc_step(mixed))));
-        } else {
-            crc = four.iter().fold(crc, |crc, octet| crc_octet(crc, *octet));
-        }
+        let mixed = crc ^ u32::from_le_bytes(*four);
+        crc = crc_step(crc_step(crc_step(crc_step(mixed))));
     }
     crc
-}
-
-/// The CRC register after one octet more.
-#[inline(always)]
-fn crc_octet(crc: u32, octet: u8) -> u32 {
-    crc_step(crc ^ u32::from(octet))
 }
 
 /// The CRC register after an octet that is mixed into it already.
@@ -345,8 +330,19 @@ fn crc_step(mixed: u32) -> u32 {
 /// The weight of an address under a digest, by the address's low word: only the low 31 bits of each product count.
 #[inline]
 pub fn weight(low_word: u32, digest: u32) -> u32 {
-    let mixed = MULTIPLIER.wrapping_mul(low_word).wrapping_add(INCREMENT) ^ digest;
-    MULTIPLIER.wrapping_mul(mixed).wrapping_add(INCREMENT) & LOW_31_BITS
+    MULTIPLIER.wrapping_mul(mixed(low_word, digest)).wrapping_add(INCREMENT) & LOW_31_BITS
+}
+
+/// Twice the weight, which fills a word: no bit is left to cut off.
+#[inline]
+pub fn doubled_weight(low_word: u32, digest: u32) -> u32 {
+    TWICE_MULTIPLIER.wrapping_mul(mixed(low_word, digest)).wrapping_add(2 * INCREMENT)
+}
+
+/// What is multiplied second.
+#[inline(always)]
+fn mixed(low_word: u32, digest: u32) -> u32 {
+    MULTIPLIER.wrapping_mul(low_word).wrapping_add(INCREMENT) ^ digest
 }
 
 /// The CRC register after each octet, from an empty register.

@@ -77,7 +77,7 @@ impl Table {
         match algorithm {
             2 => two.meet_all((attributes, 0), (set, full), higher),
             3 => two.meet_all((attributes, 0), (set, full), lower),
-            _ => self.weigh(&mut two, set, full, octets::digest::<true>(tag, &self.esi)),
+            _ => self.weigh(&mut two, set, full, octets::digest(tag, &self.esi)),
         }
         let (family, address) = self.number_at(two.second.1).answered();
         Backup {

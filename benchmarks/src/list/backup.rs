@@ -58,7 +58,7 @@ impl List {
         };
         let is_ready = first.ac_df.then(ready);
         let (agreed, second) = if algorithm == 1 {
-            let digest = octets::digest::<false>(tag, &self.esi);
+            let digest = octets::digest(tag, &self.esi);
             let mut two = Two::NONE;
             let (agreed, _) = self.walk(first, is_ready, |route| {
                 let weight = octets::weight(route.key.address().low_word(), digest);

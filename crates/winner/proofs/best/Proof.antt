@@ -1,4 +1,4 @@
--- `best` meets its contract: the loop is run under 1, or without the digest, which plays no part under the others. Assumes nothing.
+-- `best` meets its contract: the walk by weight under 1, and that by preference under the others, where the digest plays no part. Assumes nothing.
 use Prim.Native.Nat.{ℕ}
 use mathlib.Core.Path.{ap, sym}
 use borrow.Author.Needs.{needs}
