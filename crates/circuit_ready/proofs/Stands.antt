@@ -1,5 +1,5 @@
 -- A route at a place: its row is compared in two parts, the kind and the tag, and the address; a route that stands at a place stands. Assumes nothing.
-use Prim.Native.Nat.{ℕ, _+_, _*_, _^_, _≤_, _<_}
+use Prim.Native.Nat.{ℕ, zero, suc, _+_, _*_, _^_, _≤_, _<_}
 use native.Mathlib.Nat.{suc-mul, mul-le-mul-right}
 use native.Mathlib.Omega.{arith}
 use mathlib.Core.Path.{_≡_, refl, ap, ap₂, _∙_, sym}
@@ -10,7 +10,10 @@ use lib.Seq.{take-add, drop-drop, length-take-le}
 use lib.Dec.{ltb, eqb}
 use borrow.Author.Tests.{not-true, not-false, ltb-true, eqb-true, lt-ltb, le-ltb, eq-eqb, ne-eqb}
 use Rattle.lists.proofs.Bools.{true-false}
-use Rattle.lists.proofs.Numbers.{whether, ordered}
+use Rattle.lists.specs.Lists.{bit}
+use Rattle.lists.proofs.Numbers.{either, whether, ordered}
+use Rattle.keyed.specs.Keyed.{rank}
+use Rattle.keyed.proofs.Keyed.{rank-above, present-of}
 use Rattle.address.specs.Address.{IsAddress, ipv4, ipv6}
 use Rattle.address.proofs.Laws.{length-address}
 use Rattle.rows.specs.Rows.{rowKey, keyOrder}
@@ -74,24 +77,25 @@ module _ (b : List ℕ) (h : ValidCircuits b) (i : ℕ) where
   unfolding standsAt
   past-last r l = rw (le-ltb i (length routes) l)
 
-  -- the two parts of a row are in the table
-  pub head-fits : i < length routes → i * 7 + 2 ≤ length b
-  head-fits l = omega (arith, short b h, length-valid b h)
+  -- the two parts of its row, which starts at word a, are in the table
+  module _ (a : ℕ) (s : a ≡ i * 7) (l : i < length routes) where
+    pub head-fits : a + 2 ≤ length b
+    head-fits = omega (arith, short b h, length-valid b h)
 
-  pub rest-fits : (r : List ℕ) → IsAddress r → i < length routes → i * 7 + 2 + length r ≤ length b
-  rest-fits r g l = omega (arith, short b h, length-valid b h, length-address r g)
+    pub rest-fits : (r : List ℕ) → IsAddress r → a + 2 + length r ≤ length b
+    rest-fits r g = omega (arith, short b h, length-valid b h, length-address r g)
 
-  -- they decide
-  pub parts-decide : (x y : ℕ) (r : List ℕ) → IsAddress r → Words b → Words r → i < length routes
-      → standsAt routes i (x ∷ y ∷ r) ≡ (eqb (rowKey (take 2 (drop (i * 7) b))) (rowKey (x ∷ y ∷ [])) && eqb (rowKey (take (length r) (drop (i * 7 + 2) b))) (rowKey r))
-  unfolding standsAt
-  parts-decide x y r g o q l =
-      let five = length-address r g in
-      let low = take (length r) (drop (i * 7 + 2) b) in
-      let n : length low ≡ length r = length-take-le (length r) (drop (i * 7 + 2) b) (simp length-drop (omega (arith, rest-fits r g l))) in
-      let row : getD routes i [] ≡ take 2 (drop (i * 7) b) ++ low =
-      sym (route-row b h i l) ∙ take-add 2 5 (drop (i * 7) b) ∙ ap₂ (λ (k : ℕ) (s : List ℕ). take 2 (drop (i * 7) b) ++ take k s) (sym five) (drop-drop 2 (i * 7) b) in
-      rw (lt-ltb i (length routes) l, row) (same-parts (take 2 (drop (i * 7) b)) low (x ∷ y ∷ []) r n (words-part (length r) (i * 7 + 2) b o) q)
+    -- they decide
+    pub parts-decide : (x y : ℕ) (r : List ℕ) → IsAddress r → Words b → Words r
+        → standsAt routes i (x ∷ y ∷ r) ≡ (eqb (rowKey (take 2 (drop a b))) (rowKey (x ∷ y ∷ [])) && eqb (rowKey (take (length r) (drop (a + 2) b))) (rowKey r))
+    unfolding standsAt
+    parts-decide x y r g o q =
+        let five = length-address r g in
+        let low = take (length r) (drop (a + 2) b) in
+        let n : length low ≡ length r = length-take-le (length r) (drop (a + 2) b) (simp length-drop (omega (arith, rest-fits r g))) in
+        let row : getD routes i [] ≡ take 2 (drop a b) ++ low =
+        sym (route-row b h i l) ∙ ap (λ (k : ℕ). take 7 (drop k b)) (sym s) ∙ take-add 2 5 (drop a b) ∙ ap₂ (λ (k : ℕ) (w : List ℕ). take 2 (drop a b) ++ take k w) (sym five) (drop-drop 2 a b) in
+        rw (lt-ltb i (length routes) l, row) (same-parts (take 2 (drop a b)) low (x ∷ y ∷ []) r n (words-part (length r) (a + 2) b o) q)
 
   -- a route that stands at a place stands, and the place is one of the table's
   pub at-stands : (r : List ℕ) → standsAt routes i r ≡ true → (i < length routes) × (stands routes r ≡ true)
@@ -123,3 +127,38 @@ ready-at b h tag i j a e t = go _ _ refl refl (sym e ∙ t)
         (x .0, y .0, ready-stands (circuitsIn b) tag a {p = true} {q = true} (sym (x .1)) (sym (y .1)))
     go true false l m z = absurd (true-false z refl)
     go false q l m z = absurd (true-false z refl)
+
+-- THE PLACE after a router's per-segment route, or where it would stand, is not behind that of its per-instance route
+rank-mono : (m n : ℕ) (c : List (List ℕ)) → m ≤ n → rank rowKey m c ≤ rank rowKey n c
+unfolding rank
+rank-mono m n [] h = omega arith
+rank-mono m n (x ∷ c) h =
+    either (rowKey x) m
+    (λ l. let ih = rank-mono m n c h in rw (lt-ltb (rowKey x) m l, lt-ltb (rowKey x) n (omega arith)) (omega (arith, ih)))
+    (λ l. rw (le-ltb (rowKey x) m l) (omega arith))
+
+kinds-rise : (tag : ℕ) (a : List ℕ) → Words (0 ∷ a) → rowKey (perSegment a) < rowKey (perInstance tag a)
+unfolding rowKey
+kinds-rise tag a o = let l = key-lt (0 ∷ a) o in omega (arith, l)
+
+pub segment-first : (b : List ℕ) → ValidCircuits b → (tag : ℕ) (a : List ℕ) → Words a → (q : Bool) {p : Bool} {i j : ℕ}
+    → p ≡ stands (circuitsIn b) (perSegment a)
+    → i ≡ rank rowKey (rowKey (perSegment a)) (circuitsIn b) + bit p
+    → j ≡ rank rowKey (rowKey (perInstance tag a)) (circuitsIn b) + bit q
+    → i ≤ j
+segment-first b h tag a o q {p} {i} {j} e x y = go p e x
+  where
+    zero-first : (k : ℕ) → getD (0 ∷ a) k 0 < 4294967296
+    zero-first zero = omega arith
+    zero-first (suc k) = o k
+
+    go : (p : Bool) → p ≡ stands (circuitsIn b) (perSegment a) → i ≡ rank rowKey (rowKey (perSegment a)) (circuitsIn b) + bit p → i ≤ j
+    go true e x =
+        let r = present-of rowKey (rowKey (perSegment a)) (circuitsIn b) 0 [] (h .sound .rising) (sym e) in
+        let l = kinds-rise tag a zero-first in
+        let z = rank-above rowKey (rowKey (perInstance tag a)) (circuitsIn b) 0 (rank rowKey (rowKey (perSegment a)) (circuitsIn b)) [] (h .sound .rising) (r .0) (rw (r .1) l) in
+        omega (arith, x, y, z)
+    go false e x =
+        let l = kinds-rise tag a zero-first in
+        let z = rank-mono (rowKey (perSegment a)) (rowKey (perInstance tag a)) (circuitsIn b) (omega (arith, l)) in
+        omega (arith, x, y, z)

@@ -7,7 +7,7 @@ use rows::Order;
 ghost use mathlib.Core.Path.{_≡_};
 ghost use mathlib.Core.Bool.{_&&_};
 ghost use mathlib.Core.List.{_∷_, map};
-ghost use Prim.Native.Nat.{_+_, _≤_};
+ghost use Prim.Native.Nat.{_+_, _/_, _%_, _≤_, _<_};
 ghost use lib.ListN.{length, take, drop};
 ghost use lib.Dec.{eqb};
 ghost use Rattle.lists.specs.Lists.{bit};
@@ -42,15 +42,11 @@ fn same_at(c: &[u32], start: usize, key: &[u32]) -> bool
     }
 }
 
-// Whether the route of a kind and tag of the router with this address, as a row of words, stands at a place.
-fn is_at(circuits: &[u32], place: usize, kind: u32, tag: u32, address: &[u32]) -> bool
-    requires { ⌜ ValidCircuits (now circuits) × IsAddress (now address) ⌝ }
-    ensures { λ r. ⌜ r ≡ standsAt (circuitsIn (now (circuits .entry))) place (kind ∷ tag ∷ now (address .entry)) ⌝ }
+// Whether the route of a kind and tag of the router with this address, as a row of words, stands where a row in use starts.
+fn is_at(circuits: &[u32], start: usize, kind: u32, tag: u32, address: &[u32]) -> bool
+    requires { ⌜ ValidCircuits (now circuits) × IsAddress (now address) × (start % 7 ≡ 0) × (start / 7 < length (circuitsIn (now circuits))) ⌝ }
+    ensures { λ r. ⌜ r ≡ standsAt (circuitsIn (now (circuits .entry))) (start / 7) (kind ∷ tag ∷ now (address .entry)) ⌝ }
 {
-    if circuit_layout::count(circuits) <= place {
-        return false;
-    }
-    let start = place * WIDTH;
     let head = [kind, tag];
     if !same_at(circuits, start, &head) {
         return false;
@@ -59,11 +55,15 @@ fn is_at(circuits: &[u32], place: usize, kind: u32, tag: u32, address: &[u32]) -
     same_at(circuits, behind, address)
 }
 
-// Whether both routes of a router stand at two places.
+// Whether both routes of a router stand where two rows start, the per-segment one's no later than the other's.
 fn both_at(circuits: &[u32], segment: usize, instance: usize, tag: u32, address: &[u32]) -> bool
-    requires { ⌜ ValidCircuits (now circuits) × IsAddress (now address) ⌝ }
-    ensures { λ r. ⌜ r ≡ (standsAt (circuitsIn (now (circuits .entry))) segment (perSegment (now (address .entry))) && standsAt (circuitsIn (now (circuits .entry))) instance (perInstance tag (now (address .entry)))) ⌝ }
+    requires { ⌜ ValidCircuits (now circuits) × IsAddress (now address) × (segment % 7 ≡ 0) × (instance % 7 ≡ 0) × (segment ≤ instance) ⌝ }
+    ensures { λ r. ⌜ r ≡ (standsAt (circuitsIn (now (circuits .entry))) (segment / 7) (perSegment (now (address .entry))) && standsAt (circuitsIn (now (circuits .entry))) (instance / 7) (perInstance tag (now (address .entry)))) ⌝ }
 {
+    let end = circuit_layout::count(circuits) * WIDTH;
+    if end <= instance {
+        return false;
+    }
     if !is_at(circuits, segment, PER_SEGMENT, 0, address) {
         return false;
     }
@@ -99,7 +99,7 @@ fn look_for(circuits: &[u32], first: usize, kind: u32, tag: u32, address: &[u32]
 }
 
 // The set of the places whose router is ready for a tag. Routers are asked for in rising address order, as the routes of each kind stand: the first look for each
-// of a router's two routes is at the place after the one where the last router's stood, or would stand. Of the first router it is at the first route. Where both
+// of a router's two routes is at the place after the one where the last router's stood, or would stand, kept as the word at which its row starts. Of the first router it is at the first route. Where both
 // stand there, as those of every router after the first do where all are ready and no other router has routes between theirs, equality alone decides; else both are searched for.
 fn circuit_set(t: &[u32], circuits: &[u32], tag: u32) -> u64
     requires { ⌜ Valid (now t) × ValidCircuits (now circuits) ⌝ }
@@ -114,13 +114,13 @@ fn circuit_set(t: &[u32], circuits: &[u32], tag: u32) -> u64
         let address = layout::address_at(t, at);
         if both_at(circuits, segment, instance, tag, address) {
             set = places::with(set, at);
-            segment += 1;
-            instance += 1;
+            segment += WIDTH;
+            instance += WIDTH;
         } else {
-            let per_segment = look_for(circuits, segment, PER_SEGMENT, 0, address);
-            let per_instance = look_for(circuits, instance, PER_INSTANCE, tag, address);
-            segment = per_segment.next;
-            instance = per_instance.next;
+            let per_segment = look_for(circuits, segment / WIDTH, PER_SEGMENT, 0, address);
+            let per_instance = look_for(circuits, instance / WIDTH, PER_INSTANCE, tag, address);
+            segment = per_segment.next * WIDTH;
+            instance = per_instance.next * WIDTH;
             if per_segment.stands & per_instance.stands {
                 set = places::with(set, at);
             }
