@@ -5,7 +5,7 @@ use native.Mathlib.Nat.{le-of-suc-le-suc, not-suc-le-zero, zero-add, add-zero, z
 use native.Mathlib.Omega.{arith}
 use mathlib.Core.Path.{_≡_, refl, ap, sym, _∙_}
 use mathlib.Core.Bool.{Bool, true, false}
-use mathlib.Core.List.{List, [], _∷_}
+use mathlib.Core.List.{List, [], _∷_, _++_}
 use lib.ListN.{getD, drop}
 use lib.Seq.{getD-drop}
 use lib.Dec.{eqb}
@@ -13,7 +13,7 @@ use lib.Arith.{lt-one}
 use lib.Bits.{bitAnd, bitOr, bitXor, and-le-l, and-comm, and-mask}
 use lib.Count.{trailingZeros, trailing-of-zero}
 use borrow.Author.Tests.{eq-eqb, ne-eqb, eqb-true, eqb-false}
-use Rattle.places.specs.Places.{placesFrom, places, consecutive, lowestRun}
+use Rattle.places.specs.Places.{placesFrom, places, consecutive, lowestRun, stretch}
 use Rattle.places.proofs.Bits.{over, by-bits, from-even, from-odd, from-none, fill-even, fill-odd, clear-even, clear-odd, ones-end, ones-more}
 use Rattle.places.proofs.Laws.{Rises, from-rises, places-none}
 
@@ -68,6 +68,32 @@ module _ (l : List ℕ) (f e : ℕ) (p : f ≡ getD l 0 64) (q : e ≡ getD l 0 
   run-past m k t h =
       let n : lowestRun l + (f + k - e) ≡ k = omega (arith, p, q) in
       ap (λ (m : List ℕ). getD m (f + k - e) 64) t ∙ getD-drop (lowestRun l) l (f + k - e) 64 ∙ ap (λ (j : ℕ). getD l j 64) n
+
+-- a list is its first run, and what is left without it
+split-from : (i : ℕ) (l : List ℕ) → l ≡ stretch i (consecutive i l) ++ drop (consecutive i l) l
+unfolding stretch
+split-from =
+    by-run (λ i l n. l ≡ stretch i n ++ drop n l)
+    (λ i. refl)
+    (λ i x l. refl)
+    (λ i l n p. ap (i ∷_) p)
+
+pub run-splits : (l : List ℕ) (f e : ℕ) {m : List ℕ} → f ≡ getD l 0 64 → e ≡ getD l 0 64 + lowestRun l → m ≡ drop (lowestRun l) l → l ≡ stretch f (e - f) ++ m
+run-splits l f e p q t =
+    let n : e - f ≡ lowestRun l = omega (arith, p, q) in
+    rw (n, p, t) (split-from (getD l 0 64) l)
+
+-- a stretch that ends before e, walked from its first number on
+pub stretch-on : (i e : ℕ) → i < e → stretch i (e - i) ≡ i ∷ stretch (i + 1) (e - (i + 1))
+unfolding stretch
+stretch-on i e h =
+    let n : e - i ≡ suc (e - (i + 1)) = omega arith in
+    let m : suc i ≡ i + 1 = omega arith in
+    ap (stretch i) n ∙ ap (λ (j : ℕ). i ∷ stretch j (e - (i + 1))) m
+
+pub stretch-over : (i e : ℕ) → e ≤ i → stretch i (e - i) ≡ []
+unfolding stretch
+stretch-over i e h = let n : e - i ≡ 0 = omega arith in ap (stretch i) n
 
 -- ---- the lowest run of a set
 

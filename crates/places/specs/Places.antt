@@ -4,6 +4,7 @@
 --   places s          == the places of the set s, rising
 --   consecutive i l   == how many of l, from the first on, are i, i + 1 and so on
 --   lowestRun l       == how long the first run of l is: how many of l, from the first on, are each one more than the one before
+--   stretch i n       == the n numbers i, i + 1 and so on
 --   setOf bs          == the set of the places whose flag is true: bit i is one exactly if the i-th flag of bs is true
 --   picked bs l       == the elements of l whose flag in bs is true, in their order
 --   withPlace s i     == the set s with the place i; s itself where i is no place, that is, 64 or more
@@ -28,6 +29,10 @@ consecutive i (x ∷ l) = cond (eqb x i) (suc (consecutive (suc i) l)) 0
 
 abbrev pub lowestRun : List ℕ → ℕ
 lowestRun l = consecutive (getD l 0 64) l
+
+unfoldable pub stretch : ℕ → ℕ → List ℕ
+stretch i zero = []
+stretch i (suc n) = i ∷ stretch (suc i) n
 
 unfoldable pub setOf : List Bool → ℕ
 setOf [] = 0
