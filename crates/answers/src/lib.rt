@@ -1,5 +1,5 @@
-// What an election answers once its candidates are known: the place that is elected, by the tag or by a multicast flow, and the whole answer that names the router
-// there, or a refusal.
+// What an election answers once its candidates are known: the digest of the tag or of a multicast flow, the place that is elected for a tag, and the whole answer
+// that names the router there, or a refusal.
 ghost use mathlib.Core.Path.{_≡_};
 ghost use mathlib.Core.List.{_++_};
 ghost use Prim.Native.Nat.{_%_, _^_, _<_};
@@ -37,7 +37,7 @@ pub fn refusal(number: u8) -> Answer
 }
 
 // The digest of a tag on the table's segment, which only algorithm 1 asks for; 0 under the others.
-fn digest_under(t: &[u32], algorithm: u8, tag: u32) -> u32
+pub fn digest_under(t: &[u32], algorithm: u8, tag: u32) -> u32
     requires { ⌜ Valid (now t) ⌝ }
     ensures { λ r. ⌜ r ≡ digestUnder algorithm tag (tableIn (now (t .entry)) .esi) ⌝ }
 {
@@ -57,15 +57,13 @@ pub fn place_by_tag(t: &[u32], algorithm: u8, set: u64, n: u32, tag: u32) -> usi
     winner::elected_place(t, set, n, algorithm, tag, digest)
 }
 
-// The same for a multicast flow, whose digest is taken over S and G, which are whole words of four octets, the tag and the identifier: by the greatest weight, as
-// algorithm 1 has it.
-pub fn place_by_flow(t: &[u32], set: u64, source: &[u8], group: &[u8], tag: u32) -> usize
-    requires { ⌜ Valid (now t) × (set ≡ 0 → ⊥) × (set < 2 ^ length (tableIn (now t) .entries)) × (length (now source) % 4 ≡ 0) × (length (now group) % 4 ≡ 0) ⌝ }
-    ensures { λ r. ⌜ ElectedAt (tableIn (now (t .entry)) .entries) 1 (flowDigestOf (now (source .entry) ++ now (group .entry)) tag (tableIn (now (t .entry)) .esi)) set tag r ⌝ }
+// The digest of a multicast flow on the table's segment, taken over S and G, which are whole words of four octets, the tag and the identifier.
+pub fn digest_by_flow(t: &[u32], source: &[u8], group: &[u8], tag: u32) -> u32
+    requires { ⌜ Valid (now t) × (length (now source) % 4 ≡ 0) × (length (now group) % 4 ≡ 0) ⌝ }
+    ensures { λ r. ⌜ r ≡ flowDigestOf (now (source .entry) ++ now (group .entry)) tag (tableIn (now (t .entry)) .esi) ⌝ }
 {
     let esi = owner::identifier(t);
-    let digest = hrw::flow_digest(source, group, tag, esi);
-    winner::best(t, set, 1, digest)
+    hrw::flow_digest(source, group, tag, esi)
 }
 
 // The answer that names the router at a place, where the candidate set has n places. N is the number of the ones of the set.

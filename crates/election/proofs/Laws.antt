@@ -22,9 +22,9 @@ use Rattle.agreement.specs.declared.InUse.{InUse}
 use Rattle.agreement.proofs.Laws.{in-use-none, in-use-four}
 use Rattle.ready.specs.Ready.{candidates, candidateSet}
 use Rattle.answers.specs.Answers.{refusedAnswer, namedAnswer, Method, byTag, answerBy, Forwarder}
-use Rattle.answers.specs.Steps.{ElectedAt}
+use Rattle.answers.specs.Steps.{digestUnder, ElectedAt}
 use Rattle.answers.specs.declared.Answer.{Answer}
-use Rattle.answers.proofs.Laws.{ones-none, none-by, numbers-by, Answers, answers-12, answers-named, forwarder-by}
+use Rattle.answers.proofs.Laws.{elected-by, elected-at, ones-none, none-by, numbers-by, Answers, answers-12, answers-named, forwarder-by}
 use Rattle.election.specs.Election.{electOf}
 use Rattle.election.specs.Queries.{Query, plain, rightLengths, flowOctets, numberFor, agreedOn, plainAlgorithm, methodFor, methodOf, candidatesOf, electWith, NoneNamed}
 use Rattle.election.specs.Steps.{Elected}
@@ -146,7 +146,7 @@ module _ (s : Settings) (q : Query) (t : Table) (w : WellFormed t) (tag : ℕ) (
           elects-by m refl (answers-12 t w (u .«ac_df») ready m tag c f z)
 
       module _ {r : Answer} (at : ℕ) (z : c ≡ 0 → ⊥) where
-        pub elects-flow : (n : ℕ) (o : List ℕ) → numberFor s q ≡ n → flowOctets q ≡ o → agreedOn (u .algorithm) n ≡ true
+        elects-flow : (n : ℕ) (o : List ℕ) → numberFor s q ≡ n → flowOctets q ≡ o → agreedOn (u .algorithm) n ≡ true
             → ElectedAt (t .entries) 1 (flowDigestOf o tag (t .esi)) c tag at
             → (r ≡ namedAnswer (getD (t .entries) at noEntry .address) (u .algorithm) (length (places c)) c) × (r .n ≡ ones (r .candidates))
             → Elected s q (t .esi) (t .entries) tag ready r
@@ -161,6 +161,23 @@ module _ (s : Settings) (q : Query) (t : Table) (w : WellFormed t) (tag : ℕ) (
         elects-tag n a p b y x v =
             elects-by (byTag a tag (t .esi)) (method-tag s q (u .algorithm) tag (t .esi) n p b ∙ ap (λ (z : ℕ). byTag z tag (t .esi)) (sym y))
             (answers-named t w (u .«ac_df») ready (byTag a tag (t .esi)) tag c f at z x v)
+
+        -- by either, as `method` tells
+        pub elects-means : (n : ℕ) (o : List ℕ) (a d told : ℕ) → numberFor s q ≡ n → flowOctets q ≡ o
+            → (agreedOn (u .algorithm) n ≡ true → (a ≡ 1) × (d ≡ flowDigestOf o tag (t .esi)) × (told ≡ u .algorithm))
+            → (agreedOn (u .algorithm) n ≡ false → (a ≡ plainAlgorithm s tag (u .algorithm)) × (d ≡ digestUnder a tag (t .esi)) × (told ≡ a))
+            → ElectedAt (t .entries) a d c tag at
+            → (r ≡ namedAnswer (getD (t .entries) at noEntry .address) told (length (places c)) c) × (r .n ≡ ones (r .candidates))
+            → Elected s q (t .esi) (t .entries) tag ready r
+        elects-means n o a d told p y by-flow by-tag x v = go (agreedOn (u .algorithm) n) refl
+          where
+            go : (b : Bool) → agreedOn (u .algorithm) n ≡ b → Elected s q (t .esi) (t .entries) tag ready r
+            go true e =
+                let m = by-flow e in
+                elects-flow n o p y e (rw (m .0) at (elected-by (t .entries) a c tag d _ at (m .1) x)) (rw (m .2) at v)
+            go false e =
+                let m = by-tag e in
+                elects-tag n a p e (m .0) (elected-at (t .esi) (t .entries) a c tag d at (m .1) x) (rw (m .2) at v)
 
 -- THE ALGORITHM OF A PLAIN QUERY is not 0 where the one in use is not
 pub plain-some : (s : Settings) → SettingsRight s → (tag a : ℕ) → (a ≡ 0 → ⊥) → plainAlgorithm s tag a ≡ 0 → ⊥

@@ -16,7 +16,9 @@ ghost use Rattle.tags.specs.Tags.{reservedTag};
 ghost use Rattle.layout.specs.Words.{tableIn, Valid};
 ghost use Rattle.settings.specs.Settings.{settingsIn, ValidSettings};
 ghost use Rattle.ready.specs.Ready.{readyIn};
+ghost use Rattle.hrw.specs.Weight.{flowDigestOf};
 ghost use Rattle.answers.specs.Answers.{Forwarder};
+ghost use Rattle.answers.specs.Steps.{digestUnder};
 ghost use Rattle.election.specs.Queries.{plain, agreedOn, plainAlgorithm, methodOf, candidatesOf, electWith, NoneNamed};
 ghost use Rattle.election.specs.Steps.{ElectedFor};
 
@@ -45,6 +47,45 @@ fn agreed_on(in_use: u8, number: u8) -> bool
         return false;
     }
     in_use == number
+}
+
+// How a query is answered: the algorithm and the digest by which a router is elected, and the algorithm that the answer tells.
+struct Means {
+    algorithm: u8,
+    digest: u32,
+    told: u8,
+}
+
+// How a query is answered, whose kind has the number `number`, or 0: where the routes agree on that number, by the weights of its flow, S and G being whole words of four octets, and the number is told; else as
+// the plain query for its tag.
+fn method(
+    t: &[u32],
+    settings: &[u32],
+    number: u8,
+    source: &[u8],
+    group: &[u8],
+    tag: u32,
+    in_use: u8,
+) -> Means
+    requires { ⌜ Valid (now t) × ValidSettings (now settings) × (reservedTag tag ≡ false) × (length (now source) % 4 ≡ 0) × (length (now group) % 4 ≡ 0) ⌝ }
+    ensures by_flow { λ r. ⌜ (agreedOn «in_use» number ≡ true → (r .algorithm ≡ 1) × (r .digest ≡ flowDigestOf (now (source .entry) ++ now (group .entry)) tag (tableIn (now (t .entry)) .esi)) × (r .told ≡ «in_use»)) ⌝ }
+    ensures by_tag { λ r. ⌜ (agreedOn «in_use» number ≡ false → (r .algorithm ≡ plainAlgorithm (settingsIn (now (settings .entry))) tag «in_use») × (r .digest ≡ digestUnder (r .algorithm) tag (tableIn (now (t .entry)) .esi)) × (r .told ≡ r .algorithm)) ⌝ }
+{
+    if agreed_on(in_use, number) {
+        let digest = answers::digest_by_flow(t, source, group, tag);
+        return Means {
+            algorithm: 1,
+            digest: digest,
+            told: in_use,
+        };
+    }
+    let algorithm = plain_algorithm(settings, tag, in_use);
+    let digest = answers::digest_under(t, algorithm, tag);
+    Means {
+        algorithm: algorithm,
+        digest: digest,
+        told: algorithm,
+    }
 }
 
 // Elects for a query of any kind: `number` is the one that is set for its kind, or 0; `right` tells whether the addresses of its flow, S and G, have right
@@ -78,13 +119,9 @@ pub fn elect_query(
         return answers::refusal(NONE_ELIGIBLE);
     }
     let n = places::count(set);
-    if agreed_on(u.algorithm, number) {
-        let by_flow = answers::place_by_flow(t, set, source, group, tag);
-        return answers::named(t, u.algorithm, set, n, by_flow);
-    }
-    let algorithm = plain_algorithm(settings, tag, u.algorithm);
-    let at = answers::place_by_tag(t, algorithm, set, n, tag);
-    answers::named(t, algorithm, set, n, at)
+    let m = method(t, settings, number, source, group, tag, u.algorithm);
+    let at = winner::elected_place(t, set, n, m.algorithm, tag, m.digest);
+    answers::named(t, m.told, set, n, at)
 }
 
 // Elects the Designated Forwarder for a tag: 10 for tag 0 or 4,294,967,295, 11 for a ready list over 64 rows of five words, 12 where no route is eligible.

@@ -1,4 +1,4 @@
--- `elect_query` meets its contract: the checks in their order, and then the answer for the candidate set, by the flow or by the tag. Assumes nothing.
+-- `elect_query` meets its contract: the checks in their order, and then the answer for the candidate set. Assumes nothing.
 use Prim.Native.Nat.{ℕ, _^_, _≤_, _<_}
 use mathlib.Core.Path.{_≡_, _∙_, sym}
 use mathlib.Core.Bool.{true, false}
@@ -14,7 +14,7 @@ use Rattle.settings.specs.Settings.{Settings, settingsIn}
 use Rattle.ready.specs.Ready.{readyIn}
 use Rattle.ready.proofs.Laws.{length-ready}
 use Rattle.answers.proofs.Laws.{set-in-use}
-use Rattle.election.proofs.Laws.{promised, elects-10, elects-11, elects-18, elects-12, elects-flow, elects-tag}
+use Rattle.election.proofs.Laws.{promised, elects-10, elects-11, elects-18, elects-12, elects-means}
 use Rattle.election.proofs.elect_query.Statement.{statement}
 use Rattle.election.proofs.elect_query.Tie as tie
 
@@ -90,40 +90,25 @@ module _ (k : tie.After-count) where
   places-in-use : found .candidate-set .result < 2 ^ length (table asked .entries)
   places-in-use = set-in-use (table asked) (asked .pre .0 .sound) _ (list asked) _ (found .candidate-set .ensures)
 
-place-by-flow-requires : tie.Need-place-by-flow-requires
-place-by-flow-requires c κs =
-    let k = c .before .before in
-    let words = asked k .pre .2 (not-false _ (right (found k) .if3 .left)) in
-    (asked k .pre .0, k .before .if4 .left, places-in-use k, words .0, words .1)
+method-requires : tie.Need-method-requires
+method-requires c κs =
+    let j = found c in
+    let words = asked c .pre .2 (not-false _ (right j .if3 .left)) in
+    (asked c .pre .0, asked c .pre .1, free (right j .before .before), words .0, words .1)
+
+elected-place-requires : tie.Need-elected-place-requires
+elected-place-requires c κs = let k = c .before in (asked k .pre .0, k .before .if4 .left, places-in-use k, k .count .ensures .0)
 
 returns-5 : tie.Need-returns-5
 returns-5 c q n g f =
     let placed = c .before in
-    let agreed = placed .before .before in
-    let k = agreed .before in
+    let means = placed .before in
+    let k = means .before in
     let j = found k in
     let start = begun j in
-    elects-flow (settings start) q (table start) (start .pre .0 .sound) (start .args .tag) (list start) _ (j .before .in-use .ensures)
+    elects-means (settings start) q (table start) (start .pre .0 .sound) (start .args .tag) (list start) _ (j .before .in-use .ensures)
     (free (right j .before .before)) (short (right j .before)) (g ∙ not-false _ (right j .if3 .left)) _ (j .candidate-set .ensures) _ (k .before .if4 .left)
-    _ _ n f (sym (agreed .agreed-on .ensures) ∙ placed .before .if5 .taken) (placed .place-by-flow .ensures) (c .named .ensures)
-
-plain-algorithm-requires : tie.Need-plain-algorithm-requires
-plain-algorithm-requires c κs = let j = found (c .before .before) in (begun j .pre .1, free (right j .before .before))
-
-place-by-tag-requires : tie.Need-place-by-tag-requires
-place-by-tag-requires c κs = let k = c .before .before .before in (asked k .pre .0, k .before .if4 .left, places-in-use k, k .count .ensures .0)
-
-returns-6 : tie.Need-returns-6
-returns-6 c q n g f =
-    let placed = c .before in
-    let chosen = placed .before in
-    let agreed = chosen .before .before in
-    let k = agreed .before in
-    let j = found k in
-    let start = begun j in
-    elects-tag (settings start) q (table start) (start .pre .0 .sound) (start .args .tag) (list start) _ (j .before .in-use .ensures)
-    (free (right j .before .before)) (short (right j .before)) (g ∙ not-false _ (right j .if3 .left)) _ (j .candidate-set .ensures) _ (k .before .if4 .left)
-    _ _ n (sym (agreed .agreed-on .ensures) ∙ chosen .before .if5 .left) (chosen .plain-algorithm .ensures) (placed .place-by-tag .ensures) (c .named2 .ensures)
+    _ _ _ _ _ n f (means .method .ensures .0) (means .method .ensures .1) (placed .elected-place .ensures) (c .named .ensures)
 
 pub elect-query-spec : {M : Type 1} → statement M
 elect-query-spec =
@@ -141,11 +126,7 @@ elect-query-spec =
     (λ c κs. search needs)
     returns-4
     (λ c κs. search needs)
+    method-requires
+    elected-place-requires
     (λ c κs. search needs)
-    place-by-flow-requires
-    (λ c κs. search needs)
-    returns-5
-    plain-algorithm-requires
-    place-by-tag-requires
-    (λ c κs. search needs)
-    returns-6)
+    returns-5)
