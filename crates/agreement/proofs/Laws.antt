@@ -7,12 +7,12 @@ use mathlib.Core.Bool.{Bool, true, false, cond, _&&_, Bool·beq, and-false, and-
 use mathlib.Core.List.{List, [], _∷_}
 use lib.ListN.{length, getD, drop, drop-of-length-le}
 use lib.Seq.{drop-cons}
-use lib.Bits.{bitOr, bitXor, or-shr, xor-shr, xor-self, or-zero-r, or-add-and, xor-add-and, and-le-l, and-le-r}
+use lib.Bits.{bitOr, bitXor, or-shr, xor-shr}
 use lib.Dec.{ltb, eqb}
 use borrow.Author.Tests.{lt-ltb, le-ltb, eq-eqb, ne-eqb}
 use Rattle.lists.specs.Lists.{all, bit}
 use Rattle.lists.proofs.Bools.{cond-by, bit-halves}
-use Rattle.lists.proofs.Numbers.{either, whether}
+use Rattle.lists.proofs.Numbers.{either, whether, differ-step}
 use Rattle.lists.proofs.Lists.{empty}
 use Rattle.layout.specs.Table.{Entry, noEntry}
 use Rattle.layout.specs.Words.{kindOf}
@@ -37,17 +37,7 @@ module _ (k : ℕ) (es : List Entry) where
   kind-end i b h q = sym (ap (λ (l : List Entry). b && allOfKind k l) (drop-of-length-le es {i = i} h) ∙ and-true b) ∙ q
 
 -- A KIND is an algorithm and an AC-DF bit
--- nothing differs so far, and not here: a number that differs leaves a bit
-differ-step : (d x k : ℕ) → eqb (bitOr d (bitXor x k)) 0 ≡ (eqb d 0 && eqb x k)
-differ-step d x k =
-    let a = bitXor x k in
-    whether x k
-    (λ e. let z : bitXor x k ≡ 0 = ap (λ (y : ℕ). bitXor y k) e ∙ xor-self k in rw (z, or-zero-r d, eq-eqb x k e) (sym (and-true (eqb d 0))))
-    (λ n.
-    rw (ne-eqb x k n, ne-eqb (bitOr d a) 0 (λ z. n (omega (arith, z, or-add-and d a, and-le-l d a, xor-add-and x k, and-le-l x k, and-le-r x k))))
-    (sym (and-false (eqb d 0))))
-
--- and so it is with the kinds of words of attributes, which are their high bits
+-- nothing differs so far, and not here: so it is with the kinds of words of attributes, which are their high bits
 pub kinds-differ : (d w v : ℕ) → eqb (bitOr d (bitXor w v) / 131072) 0 ≡ (eqb (d / 131072) 0 && eqb (w / 131072) (v / 131072))
 kinds-differ d w v =
     let o : bitOr d (bitXor w v) / 131072 ≡ bitOr (d / 131072) (bitXor w v / 131072) = or-shr d (bitXor w v) 17 in

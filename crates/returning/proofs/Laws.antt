@@ -2,13 +2,15 @@
 use Prim.Native.Nat.{ℕ, zero, suc, _/_, _%_, _^_, _≤_, _<_, min}
 use native.Mathlib.Nat.{not-suc-le-zero}
 use native.Mathlib.Omega.{arith}
-use mathlib.Core.Path.{_≡_, ap, _∙_, sym, subst}
-use mathlib.Core.Bool.{Bool, true, false, cond, not, _||_, or-true, and-false}
-use mathlib.Core.List.{List, [], _∷_}
+use mathlib.Core.Path.{_≡_, refl, ap, _∙_, sym, subst}
+use mathlib.Core.Bool.{Bool, true, false, cond, not, _&&_, _||_, or-true, and-true, and-false, and-assoc}
+use mathlib.Core.List.{List, [], _∷_, _++_}
 use lib.ListN.{length, getD, set, replicate, length-replicate, getD-replicate, length-set, length-map}
+use lib.Bits.{bitOr, bitXor}
 use lib.Dec.{eqb}
 use borrow.Author.Tests.{eq-eqb, ne-eqb}
 use Rattle.lists.specs.Lists.{all}
+use Rattle.lists.proofs.Numbers.{differ-step}
 use Rattle.lists.proofs.Bools.{true-false, by-test, no-choice, bit-halves, one-of-two}
 use Rattle.address.specs.Address.{addressKey, isZero}
 use Rattle.keyed.specs.Keyed.{Rising, dropAt}
@@ -56,24 +58,31 @@ module _ (es : List Entry) (short : length es ≤ 64) (rising : Rising entryKey 
       (e ∙ ap (λ (x : ℕ). withoutPlace x i) is-all ∙ withoutPlace-set bs i (omega arith) (getD-replicate (length es) i true false l))
       (picked-dropAt es i l ∙ sym (remove-at entryKey (addressKey a) es 1 noEntry rising i f))
 
--- A WALK over the routes of a set
+-- A WALK over the routes at places: nothing differs so far, as b tells, and those left carry the algorithm
 module _ (es : List Entry) (g : ℕ) where
-  abbrev pub under : ℕ → Bool
-  under s = allUnder g (entriesAt es (places s))
+  abbrev pub under : List ℕ → Bool
+  under ps = allUnder g (entriesAt es ps)
 
-  pub under-end : (s : ℕ) → s ≡ 0 → true ≡ under s
+  pub under-end : (b : Bool) (ps : List ℕ) → ps ≡ [] → (b && under ps) ≡ b
   unfolding allUnder all
-  under-end s z = rw (ap places z ∙ places-none)
+  under-end b ps z = ap (λ (l : List ℕ). b && under l) z ∙ and-true b
 
-  -- one place of it
-  module _ (s f x : ℕ) (ps : List ℕ) (next : places s ≡ f ∷ ps) (k : x ≡ getD es f noEntry .algorithm) where
-    pub under-other : (x ≡ g → ⊥) → false ≡ under s
-    unfolding allUnder all
-    under-other n = sym (ap (λ (l : List ℕ). allUnder g (entriesAt es l)) next ∙ rw (ne-eqb (getD es f noEntry .algorithm) g (λ e. n (k ∙ e))))
+  -- one place of them, whose route's algorithm is x
+  pub under-on : (d x p : ℕ) (ps qs : List ℕ) → ps ≡ p ∷ qs → x ≡ getD es p noEntry .algorithm → (eqb (bitOr d (bitXor x g)) 0 && under qs) ≡ (eqb d 0 && under ps)
+  unfolding allUnder all
+  under-on d x p ps qs e k =
+      ap (λ (b : Bool). b && under qs) (differ-step d x g) ∙ and-assoc (eqb d 0) (eqb x g) (under qs)
+      ∙ ap (λ (y : ℕ). eqb d 0 && (eqb y g && under qs)) k ∙ ap (λ (l : List ℕ). eqb d 0 && under l) (sym e)
 
-    pub under-same : x ≡ g → under s ≡ allUnder g (entriesAt es ps)
-    unfolding allUnder all
-    under-same e = ap (λ (l : List ℕ). allUnder g (entriesAt es l)) next ∙ rw (eq-eqb (getD es f noEntry .algorithm) g (sym k ∙ e))
+  -- a run of them
+  under-append : (ps qs : List ℕ) → under (ps ++ qs) ≡ (under ps && under qs)
+  unfolding allUnder all
+  under-append [] qs = refl
+  under-append (p ∷ ps) qs = let a = eqb (getD es p noEntry .algorithm) g in ap (λ (b : Bool). a && b) (under-append ps qs) ∙ sym (and-assoc a (under ps) (under qs))
+
+  pub under-run : (b : Bool) {c : Bool} (ps run qs : List ℕ) → ps ≡ run ++ qs → c ≡ (b && under run) → (c && under qs) ≡ (b && under ps)
+  under-run b ps run qs e k =
+      ap (λ (x : Bool). x && under qs) k ∙ and-assoc b (under run) (under qs) ∙ ap (λ (x : Bool). b && x) (sym (under-append run qs) ∙ ap under (sym e))
 
 -- a set is empty exactly if no route stands at its places
 pub none-at : (es : List Entry) (s : ℕ) → s ≡ 0 → length (entriesAt es (places s)) ≡ 0

@@ -4,13 +4,14 @@ use refusals::ADDRESS_ZERO;
 use refusals::ALGORITHM_NOT_USABLE;
 use rows::Found;
 ghost use mathlib.Core.Path.{_≡_};
-ghost use mathlib.Core.Bool.{true, false, cond};
-ghost use Prim.Native.Nat.{_<_, _^_};
+ghost use mathlib.Core.Bool.{true, false, cond, _&&_};
+ghost use Prim.Native.Nat.{_-_, _<_, _≤_, _^_};
 ghost use lib.ListN.{length};
+ghost use lib.Dec.{eqb};
 ghost use Rattle.address.specs.Address.{addressRow};
 ghost use Rattle.layout.specs.Words.{tableIn, Valid};
 ghost use Rattle.settings.specs.Settings.{settingsIn, ValidSettings};
-ghost use Rattle.places.specs.Places.{places};
+ghost use Rattle.places.specs.Places.{places, stretch};
 ghost use Rattle.winner.specs.Winner.{entriesAt};
 ghost use Rattle.returning.specs.Returning as returning;
 ghost use Rattle.returning.specs.Returning.{allUnder, reaches, reference, besideReference, besideBoth, advertised, advertisedBoth, returningWith};
@@ -35,21 +36,36 @@ fn others(t: &[u32], address: Address) -> u64
     places::without(all, at)
 }
 
-// Whether all routes of a set of places carry an algorithm.
+// Whether the routes at the places from one on and before another carry an algorithm: 0 if they do and `before` is 0. What differs leaves a bit, so that the compiler
+// makes several looks at once.
+fn differing(t: &[u32], from: usize, end: usize, algorithm: u8, before: u32) -> u32
+    requires { ⌜ Valid (now t) × (end ≤ length (tableIn (now t) .entries)) ⌝ }
+    ensures { λ r. ⌜ eqb r 0 ≡ (eqb before 0 && allUnder algorithm (entriesAt (tableIn (now (t .entry)) .entries) (stretch from (end - from)))) ⌝ }
+{
+    let wanted = algorithm as u32;
+    let mut differ = before;
+    let mut i = from;
+    while i < end {
+        differ = differ | (layout::algorithm_at(t, i) ^ wanted);
+        i += 1;
+    }
+    differ
+}
+
+// Whether all routes of a set of places carry an algorithm. The set is walked run by run.
 fn all_under(t: &[u32], set: u64, algorithm: u8) -> bool
     requires { ⌜ Valid (now t) × (set < 2 ^ length (tableIn (now t) .entries)) ⌝ }
     ensures { λ r. ⌜ r ≡ allUnder algorithm (entriesAt (tableIn (now (t .entry)) .entries) (places set)) ⌝ }
 {
-    let wanted = algorithm as u32;
+    let mut differ = 0;
     let mut left = set;
     while left != 0 {
-        let at = places::first(left);
-        if layout::algorithm_at(t, at) != wanted {
-            return false;
-        }
-        left = places::rest(left);
+        let from = places::first(left);
+        let end = place_runs::run_end(left);
+        differ = differing(t, from, end, algorithm, differ);
+        left = place_runs::after_run(left);
     }
-    true
+    differ == 0
 }
 
 // Whether the own preference is at least (under algorithm 3: at most) the reference's.
