@@ -1,5 +1,5 @@
 -- Laws of the second in line: to take a place out of a set is to remove an entry, the case of the answer that each return is, and who is named. Assumes nothing.
-use Prim.Native.Nat.{ℕ, zero, suc, _+_, _*_, _/_, _%_, _^_, _≤_, _<_}
+use Prim.Native.Nat.{ℕ, zero, suc, _+_, _-_, _*_, _/_, _%_, _^_, _≤_, _<_}
 use native.Mathlib.Nat.{le-of-suc-le-suc, not-suc-le-zero, two-pow-succ}
 use native.Mathlib.Omega.{arith}
 use mathlib.Core.Path.{_≡_, refl, ap, _∙_, sym, subst}
@@ -128,11 +128,14 @@ module _ (es : List Entry) (short : length es ≤ 64) (rise : Rising entryKey 1 
   pub rest-under : r < 2 ^ length es
   rest-under = others .0
 
-  pub rest-some : r ≡ 0 → ⊥
-  rest-some z =
-      let none : length (entriesAt es (places r)) ≡ 0 = ap (λ (l : List ℕ). length (entriesAt es l)) (ap places z ∙ places-none) in
+  -- they are one fewer, and some
+  pub rest-count : (n : ℕ) → n ≡ length (places s) → n - 1 ≡ length (places r)
+  rest-count n q =
       let fewer = length-remove entryKey (entryKey (elected (m .algorithm) tag (m .digest) all)) all (has-mem entryKey elected-there) in
-      omega (arith, none, ap length (others .1), fewer, length-at es s, two)
+      omega (arith, q, ap length (others .1), fewer, length-at es s, length-at es r, two)
+
+  pub rest-some : r ≡ 0 → ⊥
+  rest-some z = omega (arith, rest-count _ refl, ap (λ (x : ℕ). length (places x)) z, ap length places-none, two)
 
   pub second-at : (at : ℕ) → ElectedAt es (m .algorithm) (m .digest) r tag at → SecondAt es m s tag at
   second-at at h = (h .0, h .1 ∙ ap (elected (m .algorithm) tag (m .digest)) (others .1))

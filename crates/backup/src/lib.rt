@@ -59,14 +59,14 @@ fn named(t: &[u32], at: usize) -> Backup
     }
 }
 
-// Of a set of two or more places in use, the place that is elected for a tag once the first elected is taken out.
-fn second_of(t: &[u32], algorithm: u8, set: u64, tag: u32) -> usize
-    requires { ⌜ Valid (now t) × (1 < length (places set)) × (set < 2 ^ length (tableIn (now t) .entries)) ⌝ }
+// Of a set of n places in use, two or more, the place that is elected for a tag once the first elected is taken out.
+fn second_of(t: &[u32], algorithm: u8, set: u64, n: u32, tag: u32) -> usize
+    requires { ⌜ Valid (now t) × (1 < length (places set)) × (set < 2 ^ length (tableIn (now t) .entries)) × (n ≡ length (places set)) ⌝ }
     ensures { λ r. ⌜ SecondAt (tableIn (now (t .entry)) .entries) (byTag algorithm tag (tableIn (now (t .entry)) .esi)) set tag r ⌝ }
 {
-    let first = answers::place_by_tag(t, algorithm, set, places::count(set), tag);
+    let first = answers::place_by_tag(t, algorithm, set, n, tag);
     let rest = places::without(set, first);
-    answers::place_by_tag(t, algorithm, rest, places::count(rest), tag)
+    answers::place_by_tag(t, algorithm, rest, n - 1, tag)
 }
 
 // The answer for a set of places in use, by an algorithm: 12 where it has fewer than two.
@@ -74,10 +74,11 @@ pub fn backup_among(t: &[u32], algorithm: u8, set: u64, tag: u32) -> Backup
     requires { ⌜ Valid (now t) × (set < 2 ^ length (tableIn (now t) .entries)) ⌝ }
     ensures { λ r. ⌜ r ≡ backupBy (byTag algorithm tag (tableIn (now (t .entry)) .esi)) (entriesAt (tableIn (now (t .entry)) .entries) (places set)) tag ⌝ }
 {
-    if places::count(set) < 2 {
+    let n = places::count(set);
+    if n < 2 {
         return refusal(NONE_ELIGIBLE);
     }
-    let at = second_of(t, algorithm, set, tag);
+    let at = second_of(t, algorithm, set, n, tag);
     named(t, at)
 }
 

@@ -1,9 +1,10 @@
 -- `second_of` meets its contract: the set without the first elected place holds the other candidates, and is not empty. Assumes nothing.
+use native.Mathlib.Omega.{arith}
 use borrow.Author.Needs.{needs}
 use Rattle.layout.specs.Table.{Table}
 use Rattle.layout.specs.Words.{tableIn}
 use Rattle.answers.specs.Answers.{Method, byTag}
-use Rattle.backup.proofs.Laws.{two-some, rest-under, rest-some, second-at}
+use Rattle.backup.proofs.Laws.{two-some, rest-under, rest-count, rest-some, second-at}
 use Rattle.backup.proofs.second_of.Statement.{statement}
 use Rattle.backup.proofs.second_of.Tie as tie
 
@@ -15,7 +16,7 @@ module _ (start : tie.Start) where
   method = byTag (start .args .algorithm) (start .args .tag) (table .esi)
 
 place-by-tag-requires : tie.Need-place-by-tag-requires
-place-by-tag-requires c κs = let start = c .before .before in (start .pre .0, two-some _ (start .pre .1), start .pre .2, c .count .ensures .0)
+place-by-tag-requires c κs = let start = c .before in (start .pre .0, two-some _ (start .pre .1), start .pre .2, start .pre .3)
 
 -- what is known once the first elected is taken out
 module _ (taken : tie.After-without) where
@@ -23,11 +24,11 @@ module _ (taken : tie.After-without) where
   found = taken .before
 
   abbrev from : tie.Start
-  from = found .before .before .before
+  from = found .before .before
 
 place-by-tag-requires-2 : tie.Need-place-by-tag-requires-2
 place-by-tag-requires-2 c κs =
-    let taken = c .before in
+    let taken = c in
     let start = from taken in
     let t = table start in
     let w = start .pre .0 .sound in
@@ -35,12 +36,12 @@ place-by-tag-requires-2 c κs =
       start .pre .0,
       rest-some (t .entries) (w .short) (w .rising) (method start) _ _ (start .pre .1) (start .pre .2) _ first _ (taken .without .ensures),
       rest-under (t .entries) (w .short) (w .rising) (method start) _ _ (start .pre .1) (start .pre .2) _ first _ (taken .without .ensures),
-      c .count2 .ensures .0,
+      rest-count (t .entries) (w .short) (w .rising) (method start) _ _ (start .pre .1) (start .pre .2) _ first _ (taken .without .ensures) _ (start .pre .3),
     )
 
 returns : tie.Need-returns
 returns c =
-    let taken = c .before .before in
+    let taken = c .before in
     let start = from taken in
     let t = table start in
     let w = start .pre .0 .sound in
@@ -48,4 +49,5 @@ returns c =
     _ (c .place-by-tag2 .ensures)
 
 pub second-of-spec : {M : Type 1} → statement M
-second-of-spec = tie.close (tie.spec (λ c κs. search needs) place-by-tag-requires (λ c κs. search needs) (λ c κs. search needs) place-by-tag-requires-2 returns)
+second-of-spec =
+    tie.close (tie.spec place-by-tag-requires (λ c κs. search needs) (λ c. let start = from c in omega (arith, start .pre .1, start .pre .3)) place-by-tag-requires-2 returns)
