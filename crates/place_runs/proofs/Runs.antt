@@ -83,6 +83,17 @@ run-splits l f e p q t =
     let n : e - f ≡ lowestRun l = omega (arith, p, q) in
     rw (n, p, t) (split-from (getD l 0 64) l)
 
+-- where every number of a list is below b, its first run ends there or before
+stretch-under : (a b i n : ℕ) (m : List ℕ) → i ≤ b → Rises a b (stretch i n ++ m) → i + n ≤ b
+unfolding stretch
+stretch-under a b i zero m h r = omega arith
+stretch-under a b i (suc n) m h r = omega (arith, stretch-under (suc i) b (suc i) n m (r .1) (r .2))
+
+pub run-under : (b : ℕ) (l : List ℕ) (f e : ℕ) → f ≡ getD l 0 64 → e ≡ getD l 0 64 + lowestRun l → f ≤ b → Rises 0 b l → e ≤ b
+run-under b l f e p q h r =
+    let n : f + (e - f) ≡ e = omega (arith, p, q) in
+    rw (← n) (stretch-under 0 b f (e - f) (drop (lowestRun l) l) h (rw (← run-splits l f e p q refl) r))
+
 -- a stretch that ends before e, walked from its first number on
 pub stretch-on : (i e : ℕ) → i < e → stretch i (e - i) ≡ i ∷ stretch (i + 1) (e - (i + 1))
 unfolding stretch
