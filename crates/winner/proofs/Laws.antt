@@ -8,10 +8,11 @@ use mathlib.Core.List.{List, [], _∷_, map}
 use mathlib.Core.Logic.{_⊎_, inl, inr, ⊎-elim}
 use lib.ListN.{length, getD, drop, length-map, List·getD-map, List·getD-eq-default}
 use lib.Bits.{bitAnd, bitXor, and-step, and-mask, xor-add-and}
+use lib.Dec.{eqb}
 use lib.Pow.{pow-mono}
 use borrow.Author.Tests.{lt-ltb, le-ltb, eq-eqb, ne-eqb}
 use Rattle.keyed.proofs.Keyed as keyed
-use Rattle.lists.specs.Lists.{Every}
+use Rattle.lists.specs.Lists.{bit, Every}
 use Rattle.lists.proofs.Bools.{cond-by, bit-less}
 use Rattle.lists.proofs.Lists.{every-at}
 use Rattle.lists.proofs.Numbers.{whether}
@@ -30,7 +31,7 @@ use Rattle.choice.specs.Choice.{best, bestOf, higher, byScore}
 use Rattle.choice.proofs.Laws.{best-none, best-wins, best-stays, bestOf-cons}
 use Rattle.choice.proofs.Criteria.{best-walk}
 use Rattle.winner.specs.Winner.{better, elected, entriesAt}
-use Rattle.winner.specs.Steps.{scoreOf, ending, Toward, FamilyFrom}
+use Rattle.winner.specs.Steps.{scoreOf, endingAt, Along, ending, Toward, FamilyFrom}
 use Rattle.winner.proofs.Orders.{better-score}
 
 -- SCORES, from an entry's standing
@@ -59,13 +60,20 @@ pub score-plain : (a d s : ℕ) (e : Entry) → (a ≡ 1 → ⊥) → (a ≡ 3 �
 unfolding scoreOf standingOf
 score-plain a d s e n t q = q ∙ rw (ne-eqb a 1 n, ne-eqb a 3 t)
 
+-- it has 17 bits
+pub score-less : (a d : ℕ) (e : Entry) → Narrow e → (a ≡ 1 → ⊥) → scoreOf a d e < 131072
+unfolding scoreOf
+score-less a d e h n =
+    let b = bit-less (e .dp) in
+    rw (ne-eqb a 1 n) (cond-by (λ (p : ℕ). p * 2 + bit (e .dp) < 131072) (eqb a 3) (λ _. omega arith) (λ _. omega arith))
+
 -- and from the low 32 bits of its address
 pub score-weight : (d w s : ℕ) (e : Entry) → w ≡ addressNumber (e .address) % 2 ^ 32 → s ≡ 2 * weightOf w d → s ≡ scoreOf 1 d e
 unfolding scoreOf
 score-weight d w s e l q = q ∙ ap (λ (x : ℕ). 2 * weightOf x d) l ∙ ap (λ (x : ℕ). 2 * x) (weightOf-word (addressNumber (e .address)) d)
 
 -- THE BEST AT A PLACE: also under another number and digest whose order is the same, and then it is the elected one if the number is not 0
-abbrev BestAt : List Entry → ℕ → ℕ → ℕ → ℕ → Type 0
+abbrev pub BestAt : List Entry → ℕ → ℕ → ℕ → ℕ → Type 0
 BestAt es a d s r = (r < length es) × (getD es r noEntry ≡ bestOf (better a d) noEntry (entriesAt es (places s)))
 
 module _ (es : List Entry) (s : ℕ) where
@@ -76,6 +84,19 @@ module _ (es : List Entry) (s : ℕ) where
   unfolding elected
   elected-best a tag d z q = (q .0, q .1 ∙ sym (rw (ne-eqb a 0 z)))
 
+-- A WALK by a score takes the next place where its score is greater, and ends where it would have ended
+module _ (S : Entry → ℕ) (es : List Entry) where
+  pub keep-on : {m : Entry} (at f : ℕ) {top v p q : ℕ} (ps : List ℕ) → Along m S es at top (f ∷ ps) → f < length es → v ≡ S (getD es f noEntry) → ((top < v) × (p ≡ f) × (q ≡ v)) ⊎ ((v ≤ top) × (p ≡ at) × (q ≡ top))
+      → Along m S es p q ps
+  keep-on at f ps w l e (inl c) = (
+    (rw (c .1) l, c .2 ∙ e ∙ ap (λ (i : ℕ). S (getD es i noEntry)) (sym (c .1))),
+    ap (λ (i : ℕ). endingAt S es i ps) (c .1) ∙ sym (best-wins (higher S) _ _ _ (lt-ltb (S (getD es at noEntry)) (S (getD es f noEntry)) (omega (arith, c .0, e, w .0 .1)))) ∙ w .1,
+  )
+  keep-on at f ps w l e (inr c) = (
+    (rw (c .1) (w .0 .0), c .2 ∙ w .0 .1 ∙ ap (λ (i : ℕ). S (getD es i noEntry)) (sym (c .1))),
+    ap (λ (i : ℕ). endingAt S es i ps) (c .1) ∙ sym (best-stays (higher S) _ _ _ (le-ltb (S (getD es at noEntry)) (S (getD es f noEntry)) (omega (arith, c .0, e, w .0 .1)))) ∙ w .1,
+  )
+
 -- A STEP along a set of places in use that is not empty: its first place f, and the rest r
 pub record Step (s f r : ℕ) : Type 0 where
   pub some : s ≡ 0 → ⊥
@@ -84,10 +105,10 @@ pub record Step (s f r : ℕ) : Type 0 where
   pub less : r < s
 
 module _ (es : List Entry) (short : length es ≤ 64) where
-  fits : (s : ℕ) → s < 2 ^ length es → s < 2 ^ 64
+  pub fits : (s : ℕ) → s < 2 ^ length es → s < 2 ^ 64
   fits s l = lt-of-lt-of-le l (pow-mono short)
 
-  some-places : (s : ℕ) → s < 2 ^ length es → (s ≡ 0 → ⊥) → 0 < length (places s)
+  pub some-places : (s : ℕ) → s < 2 ^ length es → (s ≡ 0 → ⊥) → 0 < length (places s)
   some-places s l n = rw (places-walk s (fits s l) n) (omega arith)
 
   pub first-there : {s f : ℕ} → s < 2 ^ length es → (s ≡ 0 → ⊥) → f ≡ getD (places s) 0 64 → f < length es
@@ -115,43 +136,47 @@ module _ (es : List Entry) (short : length es ≤ 64) where
         sym (ap (λ (l : List ℕ). bestOf (higher S) noEntry (entriesAt es l)) step-places ∙ bestOf-cons (higher S) noEntry (getD es f noEntry) (entriesAt es (places r))),
       )
 
-      -- after a step it keeps the place k, the one kept before or the next
-      walk-to : {m : Entry} (at k : ℕ) {p q : ℕ} → k < length es → p ≡ k → q ≡ S (getD es k noEntry) → ending S es at s ≡ m
-          → best (higher S) (getD es at noEntry) (getD es f noEntry ∷ entriesAt es (places r)) ≡ ending S es k r
-          → Toward m S es p q r
-      walk-to at k l e t w b = (
-        record { within = step-left; there = rw e l; scored = t ∙ ap (λ (i : ℕ). S (getD es i noEntry)) (sym e) },
-        ap (λ (i : ℕ). ending S es i r) e ∙ sym b ∙ ap (λ (l : List ℕ). best (higher S) (getD es at noEntry) (entriesAt es l)) (sym step-places) ∙ w,
-      )
-
-      -- it takes the next place where its score is greater, and ends where it would have ended
+      -- and goes on from place to place
       pub walk-on : {m : Entry} {at top v p q : ℕ} → Toward m S es at top s → v ≡ S (getD es f noEntry) → ((top < v) × (p ≡ f) × (q ≡ v)) ⊎ ((v ≤ top) × (p ≡ at) × (q ≡ top))
           → Toward m S es p q r
-      walk-on {at = at} w e (inl c) =
-          walk-to at f step-there (c .1) (c .2 ∙ e) (w .1) (best-wins (higher S) _ _ _ (lt-ltb (S (getD es at noEntry)) (S (getD es f noEntry)) (omega (arith, c .0, e, w .0 .scored))))
-      walk-on {at = at} w e (inr c) =
-          walk-to at at (w .0 .there) (c .1) (c .2 ∙ w .0 .scored) (w .1) (best-stays (higher S) _ _ _ (le-ltb (S (getD es at noEntry)) (S (getD es f noEntry)) (omega (arith, c .0, e, w .0 .scored))))
+      walk-on {at = at} w e c =
+          let x = keep-on S es at f (places r) ((w .0 .there, w .0 .scored), ap (λ (l : List ℕ). endingAt S es at l) (sym step-places) ∙ w .1) step-there e c in
+          (record { within = step-left; there = x .0 .0; scored = x .0 .1 }, x .1)
 
 -- a walk that goes on where another has come
 pub walk-through : {m : Entry} {S : Entry → ℕ} {es : List Entry} {at top s p q r : ℕ} → Toward m S es at top s → Toward (ending S es at s) S es p q r → Toward m S es p q r
 walk-through w x = (x .0, x .1 ∙ w .1)
 
--- THE FAMILY at the first of the places left: 4 or 6, and it does not fall as a walk goes on
+-- THE FAMILY at a place p that is in use if P holds: 4 or 6
+module _ (b : List ℕ) (h : Valid b) (P : Type 0) (p : ℕ) (there : P → p < length (tableIn b .entries)) where
+  abbrev least : ℕ → Type 0
+  least n = P → n ≤ familyOf (getD (tableIn b .entries) p noEntry .address)
+
+  pub least-begins : least 4
+  least-begins q = ⊎-elim (λ e. omega arith) (λ e. omega arith) (family-either b h p (there q))
+
+  pub least-six : least 5 → least 6
+  least-six k q = ⊎-elim (λ e. absurd (omega (arith, k q))) (λ e. omega arith) (family-either b h p (there q))
+
+  pub least-ends : least 7 → P → ⊥
+  least-ends k q = ⊎-elim (λ e. omega (arith, k q)) (λ e. omega (arith, k q)) (family-either b h p (there q))
+
+-- at the first of the places left, where it does not fall as a walk goes on
 module _ (b : List ℕ) (h : Valid b) {s : ℕ} (within : s < 2 ^ length (tableIn b .entries)) where
   abbrev es : List Entry
   es = tableIn b .entries
 
-  family-first : (s ≡ 0 → ⊥) → (familyOf (getD es (getD (places s) 0 64) noEntry .address) ≡ 4) ⊎ (familyOf (getD es (getD (places s) 0 64) noEntry .address) ≡ 6)
-  family-first n = family-either b h _ (first-under s _ within (h .sound .short) n)
+  left-there : (s ≡ 0 → ⊥) → getD (places s) 0 64 < length es
+  left-there n = first-under s _ within (h .sound .short) n
 
   pub family-begins : FamilyFrom 4 es s
-  family-begins n = ⊎-elim (λ e. omega arith) (λ e. omega arith) (family-first n)
+  family-begins = least-begins b h (s ≡ 0 → ⊥) (getD (places s) 0 64) left-there
 
   pub family-six : FamilyFrom 5 es s → FamilyFrom 6 es s
-  family-six k n = ⊎-elim (λ e. absurd (omega (arith, k n))) (λ e. omega arith) (family-first n)
+  family-six = least-six b h (s ≡ 0 → ⊥) (getD (places s) 0 64) left-there
 
   pub family-ends : FamilyFrom 7 es s → s ≡ 0
-  family-ends k = whether s 0 (λ z. z) (λ n. absurd (⊎-elim (λ e. omega (arith, k n)) (λ e. omega (arith, k n)) (family-first n)))
+  family-ends k = whether s 0 (λ z. z) (λ n. absurd (least-ends b h (s ≡ 0 → ⊥) (getD (places s) 0 64) left-there k n))
 
   pub family-on : (n : ℕ) {f r : ℕ} → Words b → Step s f r → FamilyFrom n es s → FamilyFrom n es r
   family-on n {f} {r} o step k m =
@@ -187,7 +212,7 @@ module _ (es : List Entry) (short : length es ≤ 64) (rising : Rising entryKey 
         let b = byScore (scoreOf a d) entryKey y x in
         ap (λ (c : Bool). best (better a d) (cond c y x) (entriesAt es ps)) (better-score a d y x k h) ∙ best-same (cond b y x) ps (cond-by Narrow b (λ _. k) (λ _. h))
 
-    best-scored : (ps : List ℕ) → Rises 0 (length es) ps → bestOf (higher (scoreOf a d)) noEntry (entriesAt es ps) ≡ bestOf (better a d) noEntry (entriesAt es ps)
+    pub best-scored : (ps : List ℕ) → Rises 0 (length es) ps → bestOf (higher (scoreOf a d)) noEntry (entriesAt es ps) ≡ bestOf (better a d) noEntry (entriesAt es ps)
     unfolding bestOf Rising
     best-scored [] r = refl
     best-scored (p ∷ ps) r =
