@@ -1,11 +1,11 @@
 -- The set of the routers that are ready, router by router; and that the list of the ready routers names just these. Assumes nothing.
-use Prim.Native.Nat.{ℕ, _+_, _≤_, _<_}
+use Prim.Native.Nat.{ℕ, suc, _+_, _≤_, _<_}
 use native.Mathlib.Numerals.{add-one}
 use native.Mathlib.Omega.{arith}
 use mathlib.Core.Path.{_≡_, refl, ap, ap₂, _∙_, sym, subst}
 use mathlib.Core.Bool.{Bool, true, false, cond, _&&_, _||_, and-true, and-false, or-true}
 use mathlib.Core.List.{List, [], _∷_, _++_, map, map-append}
-use lib.ListN.{length, getD, take, length-map}
+use lib.ListN.{length, getD, take, replicate, length-map}
 use lib.Seq.{length-take-le, take-suc}
 use lib.Dec.{eqb}
 use borrow.Author.Tests.{eq-eqb, eqb-true}
@@ -47,6 +47,14 @@ module _ (c : List (List ℕ)) (tag : ℕ) where
 
     pub ready-less : b ≡ false → s ≡ setOf (flags (take (i + 1) es))
     ready-less e = rw (next, e, q) (sym (setOf-last-false (flags (take i es))))
+
+-- where every router is ready, all places are in the set
+pub all-flags : (c : List (List ℕ)) (tag : ℕ) (es : List Entry) (n : ℕ) → n ≡ length es → ((i : ℕ) → i < n → readyFor c tag (getD es i noEntry .address) ≡ true) → setOf (replicate n true) ≡ setOf (flags c tag es)
+all-flags c tag es n e f = ap (λ (k : ℕ). setOf (replicate k true)) e ∙ ap setOf (each es (λ i l. f i (omega (arith, e, l))))
+  where
+    each : (l : List Entry) → ((i : ℕ) → i < length l → readyFor c tag (getD l i noEntry .address) ≡ true) → replicate (length l) true ≡ flags c tag l
+    each [] f = refl
+    each (x ∷ l) f = ap₂ (λ (b : Bool) (bs : List Bool). b ∷ bs) (sym (f 0 (omega arith))) (each l (λ i h. f (suc i) (omega (arith, h))))
 
 -- THE LIST of the ready routers of a route table
 -- whether a router is ready depends on the key of its address alone

@@ -5,20 +5,22 @@ use circuit_layout::WIDTH;
 use rows::Found;
 use rows::Order;
 ghost use mathlib.Core.Path.{_≡_};
-ghost use mathlib.Core.Bool.{_&&_};
+ghost use mathlib.Core.Bool.{true, _&&_};
 ghost use mathlib.Core.List.{_∷_, map};
-ghost use Prim.Native.Nat.{_+_, _/_, _%_, _≤_, _<_};
-ghost use lib.ListN.{length, take, drop};
+ghost use Prim.Native.Nat.{ℕ, _+_, _*_, _/_, _%_, _≤_, _<_};
+ghost use lib.ListN.{length, getD, take, drop};
 ghost use lib.Dec.{eqb};
 ghost use Rattle.lists.specs.Lists.{bit};
 ghost use Rattle.keyed.specs.Keyed.{rank};
 ghost use Rattle.rows.specs.Rows.{rowKey};
 ghost use Rattle.address.specs.Address.{IsAddress};
+ghost use Rattle.layout.specs.Table.{noEntry};
 ghost use Rattle.layout.specs.Words.{tableIn, Valid};
 ghost use Rattle.circuit_layout.specs.Circuits.{perSegment, perInstance, circuitsIn, ValidCircuits};
 ghost use Rattle.places.specs.Places.{setOf};
 ghost use Rattle.ready.specs.Ready.{candidateSet};
 ghost use Rattle.circuit_ready.specs.Routers.{stands, standsAt, readyFor, readyRouters};
+ghost use Rattle.circuit_ready.specs.Steps.{HeadAt, SameWords};
 
 // How many words of a route's row, its kind and its tag, stand before its address.
 const HEAD: usize = 2;
@@ -130,13 +132,102 @@ fn circuit_set(t: &[u32], circuits: &[u32], tag: u32) -> u64
     set
 }
 
-// The candidate set: all places in use or, with AC-DF in use, those of the ready routers. It is the one that the list of the ready routers of the route table makes.
+// Whether the rows that start at two words, `last` words from each other, begin with a kind and a tag.
+fn heads_are(circuits: &[u32], first: usize, last: usize, kind: u32, tag: u32) -> bool
+    requires { ⌜ first + last + 2 ≤ length (now circuits) ⌝ }
+    ensures { λ r. ⌜ (r ≡ true → HeadAt (now (circuits .entry)) first kind tag × HeadAt (now (circuits .entry)) (first + last) kind tag) ⌝ }
+{
+    let wanted = [kind, tag];
+    if !same_at(circuits, first, &wanted) {
+        return false;
+    }
+    let other = first + last;
+    same_at(circuits, other, &wanted)
+}
+
+// Whether the first n routers' addresses stand in the rows from the first on, and in those from the word `start` on, one after the other. Of each address the first `width` words are compared.
+fn addresses_are(t: &[u32], circuits: &[u32], start: usize, n: usize, width: usize) -> bool
+    requires { ⌜ Valid (now t) × (n ≤ length (tableIn (now t) .entries)) × (length (now circuits) ≡ 1793) × (start + n * 7 ≤ 1792) × (width ≤ 5) ⌝ }
+    ensures { λ r. ⌜ (r ≡ true → (i : ℕ) → i < n → SameWords width (now (t .entry)) (i * 5) (now (circuits .entry)) (i * 7 + 2) × SameWords width (now (t .entry)) (i * 5) (now (circuits .entry)) (start + (i * 7 + 2))) ⌝ }
+{
+    let mut i = 0;
+    while i < n {
+        let at = i * address::WIDTH;
+        let end = at + width;
+        let address = &t[at..end];
+        let row = i * WIDTH + HEAD;
+        if !same_at(circuits, row, address) {
+            return false;
+        }
+        let other = start + row;
+        if !same_at(circuits, other, address) {
+            return false;
+        }
+        i += 1;
+    }
+    true
+}
+
+// Whether the routes of all n routers, which are some, stand side by side: those per segment from the first row on, those per instance of the tag from the word `start` on. Rows rise, so where the first and the
+// last are of one kind and tag, all between them are; and IPv4 addresses stand before others, so where the last is one, all are, and their first two words say them.
+fn together(t: &[u32], circuits: &[u32], start: usize, n: usize, tag: u32) -> bool
+    requires { ⌜ Valid (now t) × ValidCircuits (now circuits) × (n ≡ length (tableIn (now t) .entries)) × (0 < n) × (start % 7 ≡ 0) × (start / 7 + n ≤ length (circuitsIn (now circuits))) ⌝ }
+    ensures { λ r. ⌜ (r ≡ true → (i : ℕ) → i < n → readyFor (circuitsIn (now (circuits .entry))) tag (getD (tableIn (now (t .entry)) .entries) i noEntry .address) ≡ true) ⌝ }
+{
+    let last = (n - 1) * WIDTH;
+    if !heads_are(circuits, 0, last, PER_SEGMENT, 0) {
+        return false;
+    }
+    if !heads_are(circuits, start, last, PER_INSTANCE, tag) {
+        return false;
+    }
+    if layout::family_at(t, n - 1) == 4 {
+        return addresses_are(t, circuits, start, n, HEAD);
+    }
+    addresses_are(t, circuits, start, n, address::WIDTH)
+}
+
+// Whether all n routers are ready for a tag and their routes stand side by side, as far as one look for where those of the tag start tells; n may be 0.
+fn all_ready(t: &[u32], circuits: &[u32], n: usize, tag: u32) -> bool
+    requires { ⌜ Valid (now t) × ValidCircuits (now circuits) × (n ≡ length (tableIn (now t) .entries)) ⌝ }
+    ensures { λ r. ⌜ (r ≡ true → (i : ℕ) → i < n → readyFor (circuitsIn (now (circuits .entry))) tag (getD (tableIn (now (t .entry)) .entries) i noEntry .address) ≡ true) ⌝ }
+{
+    if n == 0 {
+        return true;
+    }
+    let row = [PER_INSTANCE, tag, 0, 0, 0, 0, 0];
+    let found = circuit_layout::look(circuits, n, &row);
+    let mut place = 0;
+    match found {
+        Found::At(at) => {
+            place = at;
+        }
+        Found::Missing(at) => {
+            place = at;
+        }
+    }
+    let count = circuit_layout::count(circuits);
+    if count <= place {
+        return false;
+    }
+    if count - place < n {
+        return false;
+    }
+    let start = place * WIDTH;
+    together(t, circuits, start, n, tag)
+}
+
+// The candidate set: all places in use or, with AC-DF in use, those of the ready routers. It is the one that the list of the ready routers of the route table makes. Where the routes of
+// all routers stand side by side, as they do where all are ready and no other router has routes between theirs, no router is asked for by itself.
 pub fn circuit_candidates(t: &[u32], ac_df: bool, circuits: &[u32], tag: u32) -> u64
     requires { ⌜ Valid (now t) × ValidCircuits (now circuits) ⌝ }
     ensures { λ r. ⌜ r ≡ candidateSet «ac_df» (readyRouters (circuitsIn (now (circuits .entry))) tag (tableIn (now (t .entry)) .entries)) (tableIn (now (t .entry)) .entries) ⌝ }
 {
+    let n = layout::count(t);
     if ac_df {
-        return circuit_set(t, circuits, tag);
+        if !all_ready(t, circuits, n, tag) {
+            return circuit_set(t, circuits, tag);
+        }
     }
-    places::below(layout::count(t))
+    places::below(n)
 }
