@@ -12,11 +12,13 @@ mod sets;
 
 pub use circuits::Circuits;
 
-use crate::answer::{Address, Answer, Backup, Candidate, Family, Found, Segment, Sent, Verdict, ROW_WORDS};
+use crate::answer::{
+    Address, Answer, Backup, Candidate, Family, Found, Segment, Sent, Verdict, ROW_WORDS,
+};
 use crate::octets::{self, Election, Flow, FlowAlgorithms, Number, MAX_ROUTES};
 use crate::{candidates, dumps};
 use ranges::Ranges;
-use rows::{word, Four, Key, Six};
+use rows::{word, Four, Key, Row, Six};
 
 #[derive(Clone, Copy)]
 #[repr(C)]
@@ -83,7 +85,13 @@ impl Table {
         words.extend(self.attributes);
         words.push(self.count);
         let octets = [&self.esi[..], &self.unused].concat();
-        words.extend(octets.as_chunks().0.iter().map(|four| u32::from_le_bytes(*four)));
+        words.extend(
+            octets
+                .as_chunks()
+                .0
+                .iter()
+                .map(|four| u32::from_le_bytes(*four)),
+        );
         words.extend(self.flow_algorithms);
         words.extend(self.ranges.words());
         words
@@ -122,7 +130,7 @@ impl Table {
     }
 
     #[inline(always)]
-    fn take(&mut self, key: impl Key<ROW_WORDS>, communities: &[u8]) -> Verdict {
+    fn take(&mut self, key: impl Row<ROW_WORDS>, communities: &[u8]) -> Verdict {
         let election = match octets::read_communities(communities) {
             Ok(election) => election,
             Err(refused) => return refused,
@@ -137,7 +145,7 @@ impl Table {
     }
 
     #[inline(never)]
-    fn insert(&mut self, at: usize, key: impl Key<ROW_WORDS>, attributes: u32) {
+    fn insert(&mut self, at: usize, key: impl Row<ROW_WORDS>, attributes: u32) {
         let (n, place) = (self.count(), place_of(at));
         rows::insert(&mut self.addresses, n, place, key.row());
         rows::insert(&mut self.attributes, n, place, attributes);
@@ -150,12 +158,6 @@ impl Table {
         rows::remove(&mut self.addresses, n, place, [0; ROW_WORDS]);
         rows::remove(&mut self.attributes, n, place, 0);
         self.count -= 1;
-    }
-
-    /// How many routes from the lowest on have IPv4 addresses.
-    #[inline(always)]
-    fn fours(&self) -> usize {
-        fours(self.routers())
     }
 
     /// The first place of the set, which is not empty, with the greatest weight.
@@ -444,9 +446,7 @@ impl Segment for Table {
         if tag == 0 || tag == u32::MAX {
             return Answer::refused(10);
         }
-        self.elected(tag, Flow::NONE, || {
-            circuits.ready_set(self.routers(), self.fours(), tag)
-        })
+        self.elected(tag, Flow::NONE, || circuits.ready_set(self.routers(), tag))
     }
 
     #[inline]
@@ -462,9 +462,7 @@ impl Segment for Table {
         if tag == 0 || tag == u32::MAX {
             return Backup::refused(10);
         }
-        self.backup(tag, || {
-            circuits.ready_set(self.routers(), self.fours(), tag)
-        })
+        self.backup(tag, || circuits.ready_set(self.routers(), tag))
     }
 
     #[inline]

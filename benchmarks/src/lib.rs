@@ -1,8 +1,8 @@
-//! Measured speed: the proved calls beside two baselines, in one run.
+//! Measured speed: the proved calls beside two baselines, and beside a third in the named forms, in one run.
 //!
 //! - `answer`: the calls that every side has, and their answers
 //! - `proved`: the proved calls, linked in
-//! - `octets`: what both baselines read from octets and words in the same way
+//! - `octets`: what the baselines read from octets and words in the same way
 //! - `array`: baseline (a), sorted arrays updated in place
 //! - `list`: baseline (b), a doubly linked list of heap nodes
 //! - `form`: baseline (f), the forms that the project's papers name

@@ -1,10 +1,12 @@
-//! The Ethernet A-D routes in the named form: rows of seven words, the kind, the tag and the row of an address, in rising order in one array. An election looks up the
-//! per-instance route of its first router; from there on, as from the first per-segment route on, the routes of all routers lie side by side where all are
+//! The Ethernet A-D routes in the named form: rows of seven words, the kind, the tag and the row of an address, in rising order in one array. An election looks up
+//! where the per-instance routes of its tag start; from there on, as from the first per-segment route on, the routes of all routers lie side by side where all are
 //! ready. Whether all these rows are of the kind and the tag is told by the last one, since rows rise; then only addresses are compared. From the first router on
 //! that has no route there, the two routes of each are looked for one by one.
 
-use super::rows::{self, joined, pair, word, Behind, Found, Four, Key, Six};
-use super::sets;
+use super::rows::{
+    self, joined, pair, word, Behind, Found, Four, Key, Lies, Look, Row, Six, Start,
+};
+use super::{fours, sets};
 use crate::answer::{self, Circuit, CIRCUIT_WORDS, ROW_WORDS};
 use crate::octets::{self, Number, MAX_CIRCUITS};
 
@@ -54,9 +56,9 @@ impl Circuits {
     #[inline(always)]
     fn look(&self, first: usize, key: impl Key<CIRCUIT_WORDS>) -> Found {
         if first < self.count() * CIRCUIT_WORDS {
-            let (row, sought) = key.look(self.rows.as_flattened(), first);
-            if row == sought {
-                return Ok(first);
+            match key.look(Lies::at(self.rows.as_flattened(), first)) {
+                Look::Last { row, key } if row == key => return Ok(first),
+                _ => {}
             }
         }
         self.search(key)
@@ -77,32 +79,11 @@ impl Circuits {
         }
     }
 
-    /// Where the route of a router with a kind and a tag stands, or would.
-    #[inline(always)]
-    fn start(&self, head: u64, router: &[u32; ROW_WORDS]) -> usize {
-        let found = match *router {
-            [4, number, ..] => {
-                let key = Four::new(number);
-                self.search(Behind { head, key })
-            }
-            [_, a, b, c, d] => {
-                let key = Six::new([a, b, c, d]);
-                self.search(Behind { head, key })
-            }
-        };
-        match found {
-            Ok(at) | Err(at) => at,
-        }
-    }
-
-    /// The set of the places of those rising routers that are ready for a tag. The first `fours` of them have IPv4 addresses.
-    #[inline(always)]
-    pub(super) fn ready_set(&self, routers: &[[u32; ROW_WORDS]], fours: usize, tag: u32) -> u64 {
-        let Some(first) = routers.first() else {
-            return 0;
-        };
-        let start = self.start(instance(tag), first);
-        let together = self.together(routers, fours, tag, start);
+    /// The set of the places of those rising routers, which are not none, that are ready for a tag.
+    #[inline(never)]
+    pub(super) fn ready_set(&self, routers: &[[u32; ROW_WORDS]], tag: u32) -> u64 {
+        let (Ok(start) | Err(start)) = self.search(Start(instance(tag)));
+        let together = self.together(routers, tag, start);
         if together == routers.len() {
             return sets::below(together);
         }
@@ -111,13 +92,7 @@ impl Circuits {
 
     /// How many routers have both routes side by side with those before them, the per-instance ones from the word `start` on.
     #[inline(always)]
-    fn together(
-        &self,
-        routers: &[[u32; ROW_WORDS]],
-        fours: usize,
-        tag: u32,
-        start: usize,
-    ) -> usize {
+    fn together(&self, routers: &[[u32; ROW_WORDS]], tag: u32, start: usize) -> usize {
         let (words, addresses) = (self.rows.as_flattened(), routers.as_flattened());
         let last = (routers.len() - 1) * CIRCUIT_WORDS;
         if start + last >= self.count() * CIRCUIT_WORDS
@@ -126,17 +101,17 @@ impl Circuits {
         {
             return 0;
         }
-        let instances = &words[start..];
+        let fours = fours(routers);
         let (mut place, mut at, mut row) = (0, 0, HEAD);
         while place < fours {
             let head = pair(addresses, at);
-            if head != pair(words, row) || head != pair(instances, row) {
+            if head != pair(words, row) || head != pair(words, start + row) {
                 return place;
             }
             (place, at, row) = (place + 1, at + ROW_WORDS, row + CIRCUIT_WORDS);
         }
         while place < routers.len() {
-            if !same(addresses, at, words, row) || !same(addresses, at, instances, row) {
+            if !same(addresses, at, words, row) || !same(addresses, at, words, start + row) {
                 return place;
             }
             (place, at, row) = (place + 1, at + ROW_WORDS, row + CIRCUIT_WORDS);
@@ -146,13 +121,7 @@ impl Circuits {
 
     /// The set of the places of those routers, from a place on, that are ready. Those before it stand side by side in both runs.
     #[inline(never)]
-    fn one_by_one(
-        &self,
-        routers: &[[u32; ROW_WORDS]],
-        tag: u32,
-        from: usize,
-        start: usize,
-    ) -> u64 {
+    fn one_by_one(&self, routers: &[[u32; ROW_WORDS]], tag: u32, from: usize, start: usize) -> u64 {
         let (mut segment, mut instances) = (from * CIRCUIT_WORDS, start + from * CIRCUIT_WORDS);
         let mut set = 0;
         for (place, router) in routers.iter().enumerate().skip(from) {
@@ -164,7 +133,7 @@ impl Circuits {
         set
     }
 
-    fn put(&mut self, key: impl Key<CIRCUIT_WORDS>) -> u8 {
+    fn put(&mut self, key: impl Row<CIRCUIT_WORDS>) -> u8 {
         let n = self.count();
         match self.search(key) {
             Ok(_) => return 0,
@@ -180,7 +149,12 @@ impl Circuits {
             return 9;
         };
         let unused = [0; CIRCUIT_WORDS];
-        rows::remove(&mut self.rows, self.count as usize, at / CIRCUIT_WORDS, unused);
+        rows::remove(
+            &mut self.rows,
+            self.count as usize,
+            at / CIRCUIT_WORDS,
+            unused,
+        );
         self.count -= 1;
         0
     }

@@ -67,6 +67,9 @@ impl Ranges {
     /// All its words.
     pub fn words(&self) -> Vec<u32> {
         let rows = self.rows.iter().chain(&self.falling);
-        [self.count].into_iter().chain(rows.flatten().copied()).collect()
+        [self.count]
+            .into_iter()
+            .chain(rows.flatten().copied())
+            .collect()
     }
 }

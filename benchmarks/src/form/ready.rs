@@ -2,7 +2,7 @@
 //! where the address before it was found, or at the place where that one would stand, but never behind the last route. Where the list rises as the table does, the
 //! rows that follow are compared side by side.
 
-use super::rows::{self, pair, word, Found, Four, Key, Six};
+use super::rows::{self, pair, word, Found, Four, Key, Lies, Look, Six};
 use super::{place_of, sets, Table};
 use crate::answer::ROW_WORDS;
 
@@ -33,12 +33,11 @@ impl Table {
     fn ready_among<const L: u32, const EXACT: bool>(&self, n: usize, ready: &[u32]) -> u64 {
         let words = self.addresses.as_flattened();
         let last = (n - 1) * ROW_WORDS;
+        let ready = ready.as_chunks::<ROW_WORDS>().0.as_flattened();
         let (mut set, mut first, mut at) = (0, 0, 0);
-        let end = ready.len() / ROW_WORDS * ROW_WORDS;
-        while at < end {
-            let head = pair(ready, at);
-            let found = match head as u32 {
-                4 => after_first::<L, EXACT>(words, n, first, Four::of(head)),
+        while at < ready.len() {
+            let found = match word(ready, at) {
+                4 => after_first::<L, EXACT>(words, n, first, Four::new(word(ready, at + 1))),
                 6 => {
                     let address = [1, 2, 3, 4].map(|behind| word(ready, at + behind));
                     after_first::<L, EXACT>(words, n, first, Six::new(address))
@@ -51,8 +50,7 @@ impl Table {
             at += ROW_WORDS;
             match found {
                 Looked::First => {
-                    let most = (end - at).min(last - first);
-                    let run = side_by_side(&ready[at..], &words[first + ROW_WORDS..], most);
+                    let run = side_by_side((ready, at), (words, first + ROW_WORDS), last - first);
                     set |= sets::below(1 + place_of(run)) << place_of(first);
                     at += run;
                     first = (first + ROW_WORDS + run).min(last);
@@ -68,18 +66,23 @@ impl Table {
     }
 }
 
-/// How many words of rows of a ready list are those of the table's rows, of so many.
+/// How many words of rows of a ready list, from a word on, are those of the table's rows from a word on, of which so many words are left.
 #[inline(always)]
-fn side_by_side(ready: &[u32], words: &[u32], most: usize) -> usize {
+fn side_by_side(
+    (ready, from): (&[u32], usize),
+    (words, first): (&[u32], usize),
+    left: usize,
+) -> usize {
+    let most = (ready.len() - from).min(left);
     let mut at = 0;
     while at < most {
-        let head = pair(ready, at);
-        if head != pair(words, at) {
+        let head = pair(ready, from + at);
+        if head != pair(words, first + at) {
             return at;
         }
         if head as u32 != 4
-            && (pair(ready, at + 2) != pair(words, at + 2)
-                || word(ready, at + 4) != word(words, at + 4))
+            && (pair(ready, from + at + 2) != pair(words, first + at + 2)
+                || word(ready, from + at + 4) != word(words, first + at + 4))
         {
             return at;
         }
@@ -103,13 +106,14 @@ fn after_first<const L: u32, const EXACT: bool>(
     first: usize,
     key: impl Key<ROW_WORDS>,
 ) -> Looked {
-    let (row, sought) = key.look(words, first);
-    if row == sought {
-        return Looked::First;
-    }
+    let less = match key.look(Lies::at(words, first)) {
+        Look::Last { row, key } if row == key => return Looked::First,
+        Look::Last { row, key } => row < key,
+        Look::Differ { less } => less,
+    };
     if !EXACT {
         return Looked::Further(rows::among::<L, ROW_WORDS>(words, n, key));
     }
-    let start = if row < sought { ROW_WORDS } else { 0 };
+    let start = if less { ROW_WORDS } else { 0 };
     Looked::Further(rows::halved::<L, ROW_WORDS>(words, start, key))
 }

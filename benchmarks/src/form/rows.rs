@@ -10,30 +10,77 @@ const FEW: usize = 4;
 /// Where a row stands, or would stand.
 pub type Found = Result<usize, usize>;
 
-/// What a row of W words is looked for by.
+/// What rows of W words are looked for by.
 pub trait Key<const W: usize>: Copy {
-    /// The first numbers that differ of the row that starts at a word and of this key, two words or one as a number; the last ones where none differ. They
-    /// stand to each other as the row to the key.
-    fn look(self, words: &[u32], at: usize) -> (u64, u64);
+    /// Looks at a row of W words where it lies.
+    fn look(self, row: Lies) -> Look;
+}
 
-    fn row(self) -> [u32; W];
+/// How a row stands to a key: they differ, or it is as their last words do, as numbers.
+pub enum Look {
+    Differ { less: bool },
+    Last { row: u64, key: u64 },
+}
+
+use Look::{Differ, Last};
+
+/// Two pairs of words that differ.
+#[inline(always)]
+fn differ(row: u64, key: u64) -> Look {
+    Differ {
+        less: turned(row) < turned(key),
+    }
+}
+
+/// Where a row lies: at a word of a run.
+#[derive(Clone, Copy)]
+pub struct Lies(*const u32);
+
+// SAFETY, of every function: see above.
+impl Lies {
+    #[inline(always)]
+    pub fn at(words: &[u32], at: usize) -> Lies {
+        debug_assert!(at < words.len());
+        Lies(unsafe { words.as_ptr().add(at) })
+    }
+
+    /// So many words further.
+    #[inline(always)]
+    pub fn behind(self, words: usize) -> Lies {
+        Lies(unsafe { self.0.add(words) })
+    }
+
+    /// At which word of a run this is.
+    #[inline(always)]
+    fn from(self, words: &[u32]) -> usize {
+        unsafe { self.0.offset_from_unsigned(words.as_ptr()) }
+    }
+
+    /// A word of the row.
+    #[inline(always)]
+    pub fn word(self, at: usize) -> u32 {
+        unsafe { self.0.add(at).read() }
+    }
+
+    /// Two words of the row as the machine loads them at once, the first low.
+    #[inline(always)]
+    pub fn pair(self, at: usize) -> u64 {
+        let two = unsafe { self.0.add(at).cast::<[u32; 2]>().read() };
+        joined(two[0], two[1])
+    }
 }
 
 /// A word of a run.
 #[inline(always)]
 pub fn word(words: &[u32], at: usize) -> u32 {
-    debug_assert!(at < words.len());
-    // SAFETY: see above.
-    unsafe { *words.get_unchecked(at) }
+    Lies::at(words, at).word(0)
 }
 
-/// Two words of a run as the machine loads them at once, the first low.
+/// Two words of a run, the first low.
 #[inline(always)]
 pub fn pair(words: &[u32], at: usize) -> u64 {
     debug_assert!(at + 1 < words.len());
-    // SAFETY: see above.
-    let two = unsafe { words.as_ptr().add(at).cast::<[u32; 2]>().read() };
-    joined(two[0], two[1])
+    Lies::at(words, at).pair(0)
 }
 
 #[inline(always)]
@@ -45,6 +92,11 @@ pub fn joined(low: u32, high: u32) -> u64 {
 #[inline(always)]
 pub fn turned(pair: u64) -> u64 {
     pair.rotate_left(32)
+}
+
+/// A key that is a whole row.
+pub trait Row<const W: usize>: Key<W> {
+    fn row(self) -> [u32; W];
 }
 
 /// An IPv4 address in a row: the family and the number decide, since zeros follow in every such row.
@@ -59,21 +111,19 @@ impl Four {
         let head = 4 << 32 | u64::from(number);
         Four { head }
     }
-
-    /// The same of the family and the number as two words of a run.
-    #[inline(always)]
-    pub fn of(pair: u64) -> Four {
-        let head = turned(pair);
-        Four { head }
-    }
 }
 
 impl Key<5> for Four {
     #[inline(always)]
-    fn look(self, words: &[u32], at: usize) -> (u64, u64) {
-        (turned(pair(words, at)), self.head)
+    fn look(self, row: Lies) -> Look {
+        Last {
+            row: turned(row.pair(0)),
+            key: self.head,
+        }
     }
+}
 
+impl Row<5> for Four {
     #[inline(always)]
     fn row(self) -> [u32; 5] {
         [4, self.head as u32, 0, 0, 0]
@@ -101,18 +151,23 @@ impl Six {
 
 impl Key<5> for Six {
     #[inline(always)]
-    fn look(self, words: &[u32], at: usize) -> (u64, u64) {
-        let head = pair(words, at);
+    fn look(self, row: Lies) -> Look {
+        let head = row.pair(0);
         if head != self.head {
-            return (turned(head), turned(self.head));
+            return differ(head, self.head);
         }
-        let middle = pair(words, at + 2);
+        let middle = row.pair(2);
         if middle != self.middle {
-            return (turned(middle), turned(self.middle));
+            return differ(middle, self.middle);
         }
-        (word(words, at + 4).into(), self.last.into())
+        Last {
+            row: row.word(4).into(),
+            key: self.last.into(),
+        }
     }
+}
 
+impl Row<5> for Six {
     #[inline(always)]
     fn row(self) -> [u32; 5] {
         let high = |pair: u64| (pair >> 32) as u32;
@@ -130,18 +185,31 @@ pub struct Behind<K> {
 
 impl<K: Key<5>> Key<7> for Behind<K> {
     #[inline(always)]
-    fn look(self, words: &[u32], at: usize) -> (u64, u64) {
-        let head = pair(words, at);
+    fn look(self, row: Lies) -> Look {
+        let head = row.pair(0);
         if head != self.head {
-            return (turned(head), turned(self.head));
+            return differ(head, self.head);
         }
-        self.key.look(words, at + 2)
+        self.key.look(row.behind(2))
     }
+}
 
+impl<K: Row<5>> Row<7> for Behind<K> {
     #[inline(always)]
     fn row(self) -> [u32; 7] {
         let [a, b, c, d, e] = self.key.row();
         [self.head as u32, (self.head >> 32) as u32, a, b, c, d, e]
+    }
+}
+
+/// Two words with which rows start: it stands where the first of them does.
+#[derive(Clone, Copy)]
+pub struct Start(pub u64);
+
+impl<const W: usize> Key<W> for Start {
+    #[inline(always)]
+    fn look(self, row: Lies) -> Look {
+        differ(row.pair(0), self.0)
     }
 }
 
@@ -198,11 +266,12 @@ pub fn among_all<const L: u32, const W: usize>(words: &[u32], key: impl Key<W>) 
     let last = ((1 << L) - 1) * W;
     match halved::<L, W>(words, 0, key) {
         Err(at) if at == last => {
-            let (row, sought) = key.look(words, last);
-            if row == sought {
-                return Ok(last);
-            }
-            Err(if row < sought { last + W } else { last })
+            let less = match key.look(Lies::at(words, last)) {
+                Last { row, key } if row == key => return Ok(last),
+                Last { row, key } => row < key,
+                Differ { less } => less,
+            };
+            Err(if less { last + W } else { last })
         }
         found => found,
     }
@@ -212,32 +281,40 @@ pub fn among_all<const L: u32, const W: usize>(words: &[u32], key: impl Key<W>) 
 #[inline(always)]
 pub fn among<const L: u32, const W: usize>(words: &[u32], n: usize, key: impl Key<W>) -> Found {
     let look = ((1 << L) - 1) * W;
-    let (row, sought) = key.look(words, look);
-    if row == sought {
-        return Ok(look);
-    }
+    let less = match key.look(Lies::at(words, look)) {
+        Last { row, key } if row == key => return Ok(look),
+        Last { row, key } => row < key,
+        Differ { less } => less,
+    };
     let behind = (n + 1 - (1 << L)) * W;
-    halved::<L, W>(words, if row < sought { behind } else { 0 }, key)
+    halved::<L, W>(words, if less { behind } else { 0 }, key)
 }
 
 /// Looks a row up among 2^L - 1 from `start` on, by L looks at most. What is before them is below the key, and what is behind them is not.
 #[inline(always)]
 pub fn halved<const L: u32, const W: usize>(
     words: &[u32],
-    mut start: usize,
+    start: usize,
     key: impl Key<W>,
 ) -> Found {
+    if L == 0 {
+        return Err(start);
+    }
+    debug_assert!(start + ((1 << L) - 1) * W <= words.len());
+    let mut from = Lies::at(words, start);
     for n in (0..L).rev() {
         let step = W << n;
-        let (row, sought) = key.look(words, start + step - W);
-        if row == sought {
-            return Ok(start + step - W);
-        }
-        if row < sought {
-            start += step;
+        let look = from.behind(step - W);
+        let less = match key.look(look) {
+            Last { row, key } if row == key => return Ok(look.from(words)),
+            Last { row, key } => row < key,
+            Differ { less } => less,
+        };
+        if less {
+            from = look.behind(W);
         }
     }
-    Err(start)
+    Err(from.from(words))
 }
 
 /// One row more, before the one at a place among n.
