@@ -93,7 +93,7 @@ impl Circuits {
     /// How many routers have both routes side by side with those before them, the per-instance ones from the word `start` on.
     #[inline(always)]
     fn together(&self, routers: &[[u32; ROW_WORDS]], tag: u32, start: usize) -> usize {
-        let (words, addresses) = (self.rows.as_flattened(), routers.as_flattened());
+        let words = self.rows.as_flattened();
         let last = (routers.len() - 1) * CIRCUIT_WORDS;
         if start + last >= self.count() * CIRCUIT_WORDS
             || pair(words, last) != SEGMENT
@@ -101,22 +101,44 @@ impl Circuits {
         {
             return 0;
         }
-        let fours = fours(routers);
-        let (mut place, mut at, mut row) = (0, 0, HEAD);
-        while place < fours {
+        if routers[routers.len() - 1][0] != 4 {
+            return self.together_of_both(routers, start);
+        }
+        self.together_of_four(routers, start)
+    }
+
+    /// The same of routers that have IPv4 addresses, where the rows are known to be of the kind and the tag.
+    #[inline(always)]
+    fn together_of_four(&self, routers: &[[u32; ROW_WORDS]], start: usize) -> usize {
+        let (words, addresses) = (self.rows.as_flattened(), routers.as_flattened());
+        let (mut at, mut row) = (0, HEAD);
+        for place in 0..routers.len() {
             let head = pair(addresses, at);
             if head != pair(words, row) || head != pair(words, start + row) {
                 return place;
             }
-            (place, at, row) = (place + 1, at + ROW_WORDS, row + CIRCUIT_WORDS);
+            (at, row) = (at + ROW_WORDS, row + CIRCUIT_WORDS);
         }
-        while place < routers.len() {
+        routers.len()
+    }
+
+    /// The same of routers of which some have IPv6 addresses.
+    #[inline(never)]
+    fn together_of_both(&self, routers: &[[u32; ROW_WORDS]], start: usize) -> usize {
+        let (words, addresses) = (self.rows.as_flattened(), routers.as_flattened());
+        let fours = fours(routers);
+        let together = self.together_of_four(&routers[..fours], start);
+        if together < fours {
+            return together;
+        }
+        let (mut at, mut row) = (fours * ROW_WORDS, HEAD + fours * CIRCUIT_WORDS);
+        for place in fours..routers.len() {
             if !same(addresses, at, words, row) || !same(addresses, at, words, start + row) {
                 return place;
             }
-            (place, at, row) = (place + 1, at + ROW_WORDS, row + CIRCUIT_WORDS);
+            (at, row) = (at + ROW_WORDS, row + CIRCUIT_WORDS);
         }
-        place
+        routers.len()
     }
 
     /// The set of the places of those routers, from a place on, that are ready. Those before it stand side by side in both runs.
