@@ -1,10 +1,11 @@
-//! Measured speed: the proved calls beside two baselines, in one run.
+//! Measured speed: the proved calls beside two baselines, and beside a third in the named forms, in one run.
 //!
 //! - `answer`: the calls that every side has, and their answers
 //! - `proved`: the proved calls, linked in
-//! - `octets`: what both baselines read from octets and words in the same way
+//! - `octets`: what the baselines read from octets and words in the same way
 //! - `array`: baseline (a), sorted arrays updated in place
 //! - `list`: baseline (b), a doubly linked list of heap nodes
+//! - `form`: baseline (f), the forms that the project's papers name
 //! - `dumps`: the baseline of a search through two dumps of records
 //! - `candidates`: the baseline of the second in line of a list of candidates
 //! - `called`: a baseline whose calls are never inlined
@@ -18,6 +19,7 @@ pub mod array;
 pub mod called;
 pub mod candidates;
 pub mod dumps;
+pub mod form;
 pub mod list;
 pub mod octets;
 pub mod proved;

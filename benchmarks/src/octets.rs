@@ -1,6 +1,6 @@
-//! What both baselines read from octets and words in the same way: addresses, the route's checks, the list of communities, the checks of an election, the
+//! What the baselines read from octets and words in the same way: addresses, the route's checks, the list of communities, the checks of an election, the
 //! algorithm numbers of the elections by flow, a range of tags, the digests and the weight.
-//! The CRC goes through a static table of 256 entries, one look for each octet, with four octets mixed into the register at once as one word, in both baselines.
+//! The CRC goes through a static table of 256 entries, one look for each octet, with four octets mixed into the register at once as one word, in all of them.
 
 use crate::answer::{Address, Circuit, Family, Verdict, CIRCUIT_WORDS, RANGE_WORDS, ROW_WORDS};
 

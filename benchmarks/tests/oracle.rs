@@ -29,7 +29,7 @@ mod tally;
 
 use benchmarks::answer::{Address, Answer, Backup, Family, Segment, Sent, Verdict};
 use benchmarks::random::Random;
-use benchmarks::{array, list, proved, records, workload};
+use benchmarks::{array, form, list, proved, records, workload};
 use reference::address;
 use reference::election::{self, Election};
 use reference::hrw::digest;
@@ -347,6 +347,11 @@ fn list_is_right() {
     same_as_the_reference::<list::List>();
 }
 
+#[test]
+fn form_is_right() {
+    same_as_the_reference::<form::Table>();
+}
+
 /// Routes of both families that tie under algorithm 1: the lowest address wins on every side.
 #[test]
 fn ties_go_to_the_lowest_address() {
@@ -374,6 +379,7 @@ fn ties_go_to_the_lowest_address() {
         assert_eq!(winner::<proved::Table>(&tied[..n]), expected);
         assert_eq!(winner::<array::Table>(&tied[..n]), expected);
         assert_eq!(winner::<list::List>(&tied[..n]), expected);
+        assert_eq!(winner::<form::Table>(&tied[..n]), expected);
     }
 }
 
@@ -398,10 +404,12 @@ fn bench_runs_agree() {
     for input in inputs {
         let mut expected = Vec::new();
         reference::bench::run(&mut input.as_slice(), &mut expected).unwrap();
-        let (mut array, mut list) = (Vec::new(), Vec::new());
+        let (mut array, mut list, mut form) = (Vec::new(), Vec::new(), Vec::new());
         records::run::<array::Table>(&mut input.as_slice(), &mut array).unwrap();
         records::run::<list::List>(&mut input.as_slice(), &mut list).unwrap();
+        records::run::<form::Table>(&mut input.as_slice(), &mut form).unwrap();
         assert_eq!(array, expected);
         assert_eq!(list, expected);
+        assert_eq!(form, expected);
     }
 }

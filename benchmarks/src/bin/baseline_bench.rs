@@ -1,6 +1,6 @@
-//! The bench program over a baseline: `baseline_bench array` or `baseline_bench list`.
+//! The bench program over a baseline: `baseline_bench array`, `baseline_bench list` or `baseline_bench form`.
 
-use benchmarks::{array, list, records};
+use benchmarks::{array, form, list, records};
 use std::io;
 
 fn main() -> io::Result<()> {
@@ -8,6 +8,7 @@ fn main() -> io::Result<()> {
     match std::env::args().nth(1).as_deref() {
         Some("array") => records::run::<array::Table>(&mut input, &mut output),
         Some("list") => records::run::<list::List>(&mut input, &mut output),
-        _ => Err(io::Error::other("baseline_bench: say array or list")),
+        Some("form") => records::run::<form::Table>(&mut input, &mut output),
+        _ => Err(io::Error::other("baseline_bench: say array, list or form")),
     }
 }

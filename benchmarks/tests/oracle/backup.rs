@@ -8,7 +8,7 @@ use crate::{ours, sixteen_octets, theirs};
 use benchmarks::answer::{Address, Answer, Backup, Family, Segment};
 use benchmarks::random::Random;
 use benchmarks::workload::{self, Run, ESI};
-use benchmarks::{array, list, proved};
+use benchmarks::{array, form, list, proved};
 use reference::election;
 use reference::hrw;
 
@@ -397,6 +397,11 @@ fn list_backups_are_right() {
     same_as_the_reference::<list::List>();
 }
 
+#[test]
+fn form_backups_are_right() {
+    same_as_the_reference::<form::Table>();
+}
+
 /// A table of so many of three routers, which carry an algorithm and an AC-DF bit but for one, if the table is torn.
 #[derive(Clone, Copy, Debug)]
 struct Shape {
@@ -529,6 +534,7 @@ fn refusals_in_every_order() {
     refusals::<proved::Table>();
     refusals::<array::Table>();
     refusals::<list::List>();
+    refusals::<form::Table>();
 }
 
 /// The table of a reserved identifier stays empty: 10, 11 and 12.
@@ -556,6 +562,7 @@ fn reserved_identifiers_have_no_backup() {
     refusals::<proved::Table>();
     refusals::<array::Table>();
     refusals::<list::List>();
+    refusals::<form::Table>();
 }
 
 /// Of 64 routers each is the forwarder once beside each other one that is second in line, under 2 and 3; so too where a range says it.
@@ -606,6 +613,7 @@ fn every_pair_of_places() {
         places::<proved::Table>(),
         places::<array::Table>(),
         places::<list::List>(),
+        places::<form::Table>(),
     ] {
         assert_eq!(named, 4 * 64 * 63);
     }
@@ -657,6 +665,7 @@ fn ties_are_exact() {
         ties::<proved::Table>(),
         ties::<array::Table>(),
         ties::<list::List>(),
+        ties::<form::Table>(),
     ] {
         tally.at_least(2_000, ("any", false));
         tally.at_least(2_000, ("a bit", false));
@@ -692,4 +701,5 @@ fn both_families_are_named() {
     backups::<proved::Table>();
     backups::<array::Table>();
     backups::<list::List>();
+    backups::<form::Table>();
 }

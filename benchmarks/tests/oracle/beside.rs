@@ -1,9 +1,9 @@
 //! A side beside the reference: each call is made on both, its answer is compared, and after it what the side lets one see of its state, which is all the words
-//! of the proved side. Of a baseline nothing is seen but answers.
+//! of the proved side and of the baseline that has the same. Of the other baselines nothing is seen but answers.
 
 use crate::{named, ours, returning, theirs, whole, words};
 use benchmarks::answer::{Address, Answer, Backup, Circuit, Circuits, Segment, Sent, Verdict};
-use benchmarks::{array, list, proved, workload};
+use benchmarks::{array, form, list, proved, workload};
 use reference::backup;
 use reference::circuits as ad_routes;
 use reference::election;
@@ -92,6 +92,12 @@ impl State for proved::Table {
 impl State for array::Table {
     fn has(&self, _: &Table) -> bool {
         true
+    }
+}
+
+impl State for form::Table {
+    fn has(&self, table: &Table) -> bool {
+        self.words() == laid_out(table)
     }
 }
 

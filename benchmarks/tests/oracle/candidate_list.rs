@@ -7,7 +7,7 @@ use crate::{named, sixteen_octets};
 use benchmarks::answer::{Address, Backup, Candidate, Family, Segment};
 use benchmarks::random::Random;
 use benchmarks::workload::{self, ESI};
-use benchmarks::{array, candidates, list, proved};
+use benchmarks::{array, candidates, form, list, proved};
 use reference::backup;
 use std::cmp::Reverse;
 
@@ -332,4 +332,5 @@ fn lists_announced_to_a_table() {
     same_as_the_reference(by_table::<proved::Table>);
     same_as_the_reference(by_table::<array::Table>);
     same_as_the_reference(by_table::<list::List>);
+    same_as_the_reference(by_table::<form::Table>);
 }

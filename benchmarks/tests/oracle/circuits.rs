@@ -5,7 +5,7 @@ use crate::{addresses, ours, theirs, whole, words};
 use benchmarks::answer::{Address, Circuit, Circuits, Family, Segment, Verdict, CIRCUIT_WORDS};
 use benchmarks::random::Random;
 use benchmarks::workload::{self, Families};
-use benchmarks::{array, list, proved};
+use benchmarks::{array, form, list, proved};
 use reference::circuits as rules;
 use reference::refusal::answer_number;
 use reference::table::Table;
@@ -24,7 +24,7 @@ fn laid_out(rows: Vec<[u32; CIRCUIT_WORDS]>) -> Vec<u32> {
     words
 }
 
-/// A whole state. The proved one is its words just as they are.
+/// A whole state. The proved one is its words just as they are, and that of the baseline in the named forms.
 trait State {
     fn state(&self) -> Vec<u32>;
 }
@@ -38,6 +38,12 @@ impl State for proved::Circuits {
 impl State for array::Circuits {
     fn state(&self) -> Vec<u32> {
         laid_out(self.rows())
+    }
+}
+
+impl State for form::Circuits {
+    fn state(&self) -> Vec<u32> {
+        self.words()
     }
 }
 
@@ -382,6 +388,11 @@ fn list_circuits_are_right() {
     same_as_the_reference::<list::List>();
 }
 
+#[test]
+fn form_circuits_are_right() {
+    same_as_the_reference::<form::Table>();
+}
+
 /// Every call with every kind of tag and address on tables that are empty, nearly full and full: the refusals in all orders.
 #[test]
 fn refusals_in_every_order() {
@@ -448,6 +459,7 @@ fn refusals_in_every_order() {
     every_call::<proved::Table>();
     every_call::<array::Table>();
     every_call::<list::List>();
+    every_call::<form::Table>();
 }
 
 /// 64 routers that are ready for three tags, which is 256 routes: each route in turn is withdrawn and announced again, under every algorithm.
@@ -484,6 +496,7 @@ fn every_router_counts() {
             turns::<proved::Table>(families, algorithm);
             turns::<array::Table>(families, algorithm);
             turns::<list::List>(families, algorithm);
+            turns::<form::Table>(families, algorithm);
         }
     }
 }

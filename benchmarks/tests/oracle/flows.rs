@@ -5,7 +5,7 @@ use crate::addresses;
 use crate::beside::{numbers, Beside, Query, Returning, State, ROW};
 use benchmarks::answer::{Address, Answer, Segment};
 use benchmarks::random::Random;
-use benchmarks::{array, list, proved, workload};
+use benchmarks::{array, form, list, proved, workload};
 use reference::election;
 use reference::table::Table;
 
@@ -461,6 +461,11 @@ fn list_flows_are_right() {
     same_as_the_reference::<list::List>();
 }
 
+#[test]
+fn form_flows_are_right() {
+    same_as_the_reference::<form::Table>();
+}
+
 /// The numbers that the tests below set, for (S,G) and for (*,G).
 const SET: [u8; 2] = [20, 9];
 
@@ -571,6 +576,7 @@ fn refusals_in_every_order() {
     on_every_table::<proved::Table>();
     on_every_table::<array::Table>();
     on_every_table::<list::List>();
+    on_every_table::<form::Table>();
 }
 
 /// Every pair of octets is handed in as the two numbers, with none set and with others set.
@@ -591,6 +597,7 @@ fn every_pair_of_numbers() {
     every_pair::<proved::Table>();
     every_pair::<array::Table>();
     every_pair::<list::List>();
+    every_pair::<form::Table>();
 }
 
 /// Sets every pair of numbers that may be set, one after the other, upon three routes that stand; every kind of query, and what it says is in use.
@@ -630,6 +637,7 @@ fn every_number_upon_every_algorithm() {
             every_number_upon::<proved::Table>(carried, ac_df);
             every_number_upon::<array::Table>(carried, ac_df);
             every_number_upon::<list::List>(carried, ac_df);
+            every_number_upon::<form::Table>(carried, ac_df);
         }
     }
 }

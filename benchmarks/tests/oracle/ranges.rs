@@ -6,7 +6,7 @@ use crate::range_runs::KINDS;
 use crate::{addresses, ours, returning};
 use benchmarks::answer::{Address, Answer, Segment, Sent};
 use benchmarks::random::Random;
-use benchmarks::{array, list, proved, workload};
+use benchmarks::{array, form, list, proved, workload};
 use reference::election;
 use reference::table::Table;
 
@@ -491,6 +491,11 @@ fn list_ranges_are_right() {
     same_as_the_reference::<list::List>();
 }
 
+#[test]
+fn form_ranges_are_right() {
+    same_as_the_reference::<form::Table>();
+}
+
 const TOP: u32 = u32::MAX - 1;
 const THREE: [u32; 3] = [0x0A00_0001, 0x0A00_0002, 0x0A00_0003];
 
@@ -595,6 +600,7 @@ fn every_pair_of_ranges() {
     on_a_side::<proved::Table>();
     on_a_side::<array::Table>();
     on_a_side::<list::List>();
+    on_a_side::<form::Table>();
 }
 
 /// Every length of a run up to 30 ranges, with none set before and with 16.
@@ -636,6 +642,7 @@ fn every_length_of_a_run() {
     on_a_side::<proved::Table>();
     on_a_side::<array::Table>();
     on_a_side::<list::List>();
+    on_a_side::<form::Table>();
 }
 
 /// Every number up to 1,023 and around each power of two, as what the first or the second of two ranges says.
@@ -663,6 +670,7 @@ fn every_number_that_a_range_says() {
     on_a_side::<proved::Table>();
     on_a_side::<array::Table>();
     on_a_side::<list::List>();
+    on_a_side::<form::Table>();
 }
 
 /// 1 to 16 ranges of three tags each, handed in rising, falling, turned and in no order: every tag up to the last of them and past it.
@@ -704,6 +712,7 @@ fn ranges_in_any_order() {
         in_any_order::<proved::Table>(carried);
         in_any_order::<array::Table>(carried);
         in_any_order::<list::List>(carried);
+        in_any_order::<form::Table>(carried);
     }
 }
 
@@ -765,6 +774,7 @@ fn ranges_under_every_algorithm() {
     on_a_side::<proved::Table>();
     on_a_side::<array::Table>();
     on_a_side::<list::List>();
+    on_a_side::<form::Table>();
 }
 
 /// Two others of every preference and DP bit at 100 and 200, beside the own route or not, and a returning router of every preference around them: what it
@@ -824,6 +834,7 @@ fn returning_routers_with_ranges() {
     on_a_side::<proved::Table>();
     on_a_side::<array::Table>();
     on_a_side::<list::List>();
+    on_a_side::<form::Table>();
 }
 
 /// Setting numbers leaves the ranges, and setting ranges leaves the numbers; a fresh table has neither.
@@ -854,4 +865,5 @@ fn numbers_and_ranges_are_apart() {
     on_a_side::<proved::Table>();
     on_a_side::<array::Table>();
     on_a_side::<list::List>();
+    on_a_side::<form::Table>();
 }

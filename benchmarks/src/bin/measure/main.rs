@@ -1,7 +1,7 @@
 //! The harness: `measure instructions DIR [PROGRAM]` counts and prints; `measure times DIR [PROGRAM]` also takes the times, which says something
 //! only where nothing else runs; `measure counted` is what it runs below callgrind. DIR takes what is generated.
 //!
-//! - `sides`: the three sides of a comparison
+//! - `sides`: the four sides of a comparison
 //! - `rows`: the rows of the table, each rounds of calls
 //! - `ranges`: rows in pairs, without ranges of tags and with them, for a table of their own
 //! - `backups`: rows in pairs, an election and the backup named, for a table of their own

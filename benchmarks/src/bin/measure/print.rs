@@ -4,7 +4,7 @@
 use crate::cost::Costs;
 use crate::programs::Program;
 use crate::rows::{Measure, Ratio, Row, Target};
-use crate::sides::SIDES;
+use crate::sides::{ALONE, SIDES};
 use benchmarks::workload::Families;
 
 /// A table of instructions.
@@ -45,17 +45,17 @@ fn table(rows: &[Row], measured: &[Costs], measure: Measure) {
 /// A table of instructions of rows in pairs: each side's cost of the second as a ratio of its own cost of the first, of which ours is judged.
 pub fn pairs(rows: &[Row], counts: &[Costs], ratio: &Ratio) {
     let mut names = ["Call", "Addresses", "Routes"].map(String::from).to_vec();
-    for side in &SIDES {
+    for side in &SIDES[..ALONE] {
         names.push(format!("{} ins, {}", side.name, ratio.first));
         names.extend([ratio.second, "ratio"].map(String::from));
     }
     names.extend(["Target", ""].map(String::from));
     line(&names);
-    println!("|---|---|{}---|---|", "--:|".repeat(1 + 3 * SIDES.len()));
+    println!("|---|---|{}---|---|", "--:|".repeat(1 + 3 * ALONE));
     let (mut judged, mut met) = (0, 0);
     for (two, costs) in rows.chunks_exact(2).zip(counts.chunks_exact(2)) {
         let mut cells = start(&two[0]);
-        for (first, second) in costs[0].iter().zip(&costs[1]) {
+        for (first, second) in costs[0].iter().zip(&costs[1]).take(ALONE) {
             cells.push(format!("{first:.0}"));
             cells.push(format!("{second:.0}"));
             cells.push(format!("{:.2}", second / first));

@@ -1,4 +1,4 @@
-//! The bench program's row: the proved program beside the reference's and the two over the baselines, all on one generated run of records.
+//! The bench program's row: the proved program beside the reference's and those over the baselines, all on one generated run of records.
 
 use crate::cost::{callgrind, succeed, total};
 use benchmarks::records;
@@ -99,6 +99,7 @@ fn commands(program: Option<&Path>) -> io::Result<Vec<Measured>> {
     let others = [
         ("(a)", &beside, Some("array"), Some(1.15)),
         ("(b)", &beside, Some("list"), None),
+        ("(f)", &beside, Some("form"), None),
         ("reference", &reference, None, None),
     ];
     let ours = program.map(|path| ("ours", path.to_path_buf(), None, None));
