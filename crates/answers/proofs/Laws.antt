@@ -20,7 +20,7 @@ use Rattle.places.proofs.Flags.{setOf-lt, picked-places}
 use Rattle.choice.specs.Choice.{bestOf}
 use Rattle.choice.proofs.Laws.{Unique, best-in, best-top, best-only, bestOf-cons}
 use Rattle.choice.proofs.Criteria.{unique-rising}
-use Rattle.hrw.specs.Weight.{digestOf}
+use Rattle.hrw.specs.Weight.{digestOf, flowDigestOf}
 use Rattle.ready.specs.Ready.{eligible, candidates, candidateSet}
 use Rattle.winner.specs.Winner.{better, elected, entriesAt}
 use Rattle.winner.proofs.Orders.{order-better, better-any}
@@ -33,8 +33,8 @@ pub ones-none : 0 ≡ ones 0
 ones-none = ap length (sym places-none) ∙ length-places 0 (omega arith)
 
 -- the elected one does not depend on a digest that its algorithm does not ask for
-elected-under : (a tag : ℕ) (i : List ℕ) (cs : List Entry) → elected a tag (digestUnder a tag i) cs ≡ elected a tag (digestOf tag i) cs
-unfolding elected digestUnder
+elected-under : (a tag : ℕ) (i : List ℕ) (cs : List Entry) → elected a tag (digestUnder a [] tag i) cs ≡ elected a tag (digestOf tag i) cs
+unfolding elected digestUnder flowDigestOf digestOf
 elected-under a tag i cs = go (eqb a 1) refl
   where
     go : (b : Bool) → eqb a 1 ≡ b
@@ -48,8 +48,8 @@ pub elected-by : (l : List Entry) (a s tag d e at : ℕ) → d ≡ e → Elected
 elected-by l a s tag d e at p g = (g .0, g .1 ∙ ap (λ (y : ℕ). elected a tag y (entriesAt l (places s))) p)
 
 -- and with the digest that its algorithm asks for
-pub elected-at : (i : List ℕ) (l : List Entry) (a s tag d at : ℕ) → d ≡ digestUnder a tag i → ElectedAt l a d s tag at → ElectedAt l a (digestOf tag i) s tag at
-elected-at i l a s tag d at e g = let f = elected-by l a s tag d (digestUnder a tag i) at e g in (f .0, f .1 ∙ elected-under a tag i (entriesAt l (places s)))
+pub elected-at : (i : List ℕ) (l : List Entry) (a s tag d at : ℕ) → d ≡ digestUnder a [] tag i → ElectedAt l a d s tag at → ElectedAt l a (digestOf tag i) s tag at
+elected-at i l a s tag d at e g = let f = elected-by l a s tag d (digestUnder a [] tag i) at e g in (f .0, f .1 ∙ elected-under a tag i (entriesAt l (places s)))
 
 -- an answer that names, by its parts
 pub named-answer : (x : List ℕ) (a f m n s : ℕ) (w : List ℕ) → f ≡ familyOf x → w ≡ addressWords x → m ≡ n → m ≡ ones s

@@ -8,7 +8,7 @@ ghost use lib.ListN.{length, getD};
 ghost use Rattle.layout.specs.Table.{noEntry};
 ghost use Rattle.layout.specs.Words.{tableIn, Valid};
 ghost use Rattle.places.specs.Places.{places};
-ghost use Rattle.hrw.specs.Weight.{digestOf, flowDigestOf};
+ghost use Rattle.hrw.specs.Weight.{digestOf};
 ghost use Rattle.answers.specs.Answers.{refusedAnswer, namedAnswer};
 ghost use Rattle.answers.specs.Steps.{digestUnder, ElectedAt};
 
@@ -36,16 +36,16 @@ pub fn refusal(number: u8) -> Answer
     }
 }
 
-// The digest of a tag on the table's segment, which only algorithm 1 asks for; 0 under the others.
-pub fn digest_under(t: &[u32], algorithm: u8, tag: u32) -> u32
-    requires { ⌜ Valid (now t) ⌝ }
-    ensures { λ r. ⌜ r ≡ digestUnder algorithm tag (tableIn (now (t .entry)) .esi) ⌝ }
+// The digest that algorithm 1 asks for, taken over S and G of a multicast flow, which are whole words of four octets, or nothing, then over the tag and the table's identifier; 0 under the other algorithms.
+pub fn digest_under(t: &[u32], algorithm: u8, source: &[u8], group: &[u8], tag: u32) -> u32
+    requires { ⌜ Valid (now t) × (length (now source) % 4 ≡ 0) × (length (now group) % 4 ≡ 0) ⌝ }
+    ensures { λ r. ⌜ r ≡ digestUnder algorithm (now (source .entry) ++ now (group .entry)) tag (tableIn (now (t .entry)) .esi) ⌝ }
 {
     if algorithm != 1 {
         return 0;
     }
     let esi = owner::identifier(t);
-    hrw::digest(tag, esi)
+    hrw::flow_digest(source, group, tag, esi)
 }
 
 // Of a set of n places in use, which is not empty, the one that is elected for a tag.
@@ -53,17 +53,9 @@ pub fn place_by_tag(t: &[u32], algorithm: u8, set: u64, n: u32, tag: u32) -> usi
     requires { ⌜ Valid (now t) × (set ≡ 0 → ⊥) × (set < 2 ^ length (tableIn (now t) .entries)) × (n ≡ length (places set)) ⌝ }
     ensures { λ r. ⌜ ElectedAt (tableIn (now (t .entry)) .entries) algorithm (digestOf tag (tableIn (now (t .entry)) .esi)) set tag r ⌝ }
 {
-    let digest = digest_under(t, algorithm, tag);
+    let none: [u8; 0] = [0; 0];
+    let digest = digest_under(t, algorithm, &none, &none, tag);
     winner::elected_place(t, set, n, algorithm, tag, digest)
-}
-
-// The digest of a multicast flow on the table's segment, taken over S and G, which are whole words of four octets, the tag and the identifier.
-pub fn digest_by_flow(t: &[u32], source: &[u8], group: &[u8], tag: u32) -> u32
-    requires { ⌜ Valid (now t) × (length (now source) % 4 ≡ 0) × (length (now group) % 4 ≡ 0) ⌝ }
-    ensures { λ r. ⌜ r ≡ flowDigestOf (now (source .entry) ++ now (group .entry)) tag (tableIn (now (t .entry)) .esi) ⌝ }
-{
-    let esi = owner::identifier(t);
-    hrw::flow_digest(source, group, tag, esi)
 }
 
 // The answer that names the router at a place, where the candidate set has n places. N is the number of the ones of the set.

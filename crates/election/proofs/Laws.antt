@@ -165,7 +165,7 @@ module _ (s : Settings) (q : Query) (t : Table) (w : WellFormed t) (tag : ℕ) (
         -- by either, as `method` tells
         pub elects-means : (n : ℕ) (o : List ℕ) (a d told : ℕ) → numberFor s q ≡ n → flowOctets q ≡ o
             → (agreedOn (u .algorithm) n ≡ true → (a ≡ 1) × (d ≡ flowDigestOf o tag (t .esi)) × (told ≡ u .algorithm))
-            → (agreedOn (u .algorithm) n ≡ false → (a ≡ plainAlgorithm s tag (u .algorithm)) × (d ≡ digestUnder a tag (t .esi)) × (told ≡ a))
+            → (agreedOn (u .algorithm) n ≡ false → (a ≡ plainAlgorithm s tag (u .algorithm)) × (d ≡ digestUnder a [] tag (t .esi)) × (told ≡ a))
             → ElectedAt (t .entries) a d c tag at
             → (r ≡ namedAnswer (getD (t .entries) at noEntry .address) told (length (places c)) c) × (r .n ≡ ones (r .candidates))
             → Elected s q (t .esi) (t .entries) tag ready r

@@ -7,8 +7,8 @@ use refusals::NONE_ELIGIBLE;
 use refusals::READY_TOO_LONG;
 use refusals::TAG_RESERVED;
 ghost use mathlib.Core.Path.{_≡_};
-ghost use mathlib.Core.Bool.{true, false};
-ghost use mathlib.Core.List.{_++_};
+ghost use mathlib.Core.Bool.{true, false, cond};
+ghost use mathlib.Core.List.{[], _++_};
 ghost use Prim.Native.Nat.{_%_};
 ghost use lib.Count.{ones};
 ghost use lib.ListN.{length};
@@ -49,6 +49,16 @@ fn agreed_on(in_use: u8, number: u8) -> bool
     in_use == number
 }
 
+// The octets of S or of G that a digest is taken over: all of them by flow, and otherwise none.
+fn octets_if(by_flow: bool, s: &[u8]) -> &[u8]
+    ensures { λ r. ⌜ now r ≡ cond «by_flow» (now (s .entry)) [] ⌝ }
+{
+    if by_flow {
+        return s;
+    }
+    &s[0..0]
+}
+
 // How a query is answered: the algorithm and the digest by which a router is elected, and the algorithm that the answer tells.
 struct Means {
     algorithm: u8,
@@ -69,22 +79,22 @@ fn method(
 ) -> Means
     requires { ⌜ Valid (now t) × ValidSettings (now settings) × (reservedTag tag ≡ false) × (length (now source) % 4 ≡ 0) × (length (now group) % 4 ≡ 0) ⌝ }
     ensures by_flow { λ r. ⌜ (agreedOn «in_use» number ≡ true → (r .algorithm ≡ 1) × (r .digest ≡ flowDigestOf (now (source .entry) ++ now (group .entry)) tag (tableIn (now (t .entry)) .esi)) × (r .told ≡ «in_use»)) ⌝ }
-    ensures by_tag { λ r. ⌜ (agreedOn «in_use» number ≡ false → (r .algorithm ≡ plainAlgorithm (settingsIn (now (settings .entry))) tag «in_use») × (r .digest ≡ digestUnder (r .algorithm) tag (tableIn (now (t .entry)) .esi)) × (r .told ≡ r .algorithm)) ⌝ }
+    ensures by_tag { λ r. ⌜ (agreedOn «in_use» number ≡ false → (r .algorithm ≡ plainAlgorithm (settingsIn (now (settings .entry))) tag «in_use») × (r .digest ≡ digestUnder (r .algorithm) [] tag (tableIn (now (t .entry)) .esi)) × (r .told ≡ r .algorithm)) ⌝ }
 {
-    if agreed_on(in_use, number) {
-        let digest = answers::digest_by_flow(t, source, group, tag);
-        return Means {
-            algorithm: 1,
-            digest: digest,
-            told: in_use,
-        };
+    let by_flow = agreed_on(in_use, number);
+    let mut algorithm = 1;
+    let mut told = in_use;
+    if !by_flow {
+        algorithm = plain_algorithm(settings, tag, in_use);
+        told = algorithm;
     }
-    let algorithm = plain_algorithm(settings, tag, in_use);
-    let digest = answers::digest_under(t, algorithm, tag);
+    let s = octets_if(by_flow, source);
+    let g = octets_if(by_flow, group);
+    let digest = answers::digest_under(t, algorithm, s, g, tag);
     Means {
         algorithm: algorithm,
         digest: digest,
-        told: algorithm,
+        told: told,
     }
 }
 

@@ -1,11 +1,10 @@
-// One call to a function, as in `exports`: the setting of the numbers, the election for a multicast flow (S,G), and the digest of a tag. They are an archive of their own, so that each election is
+// One call to a function, as in `exports`: the setting of the numbers, and the election for a multicast flow (S,G). They are an archive of their own, so that each election is
 // compiled as it is for a program that calls only that one.
 use export_forms::Answer;
 ghost use mathlib.Core.Path.{_≡_};
 ghost use Rattle.ready.specs.Ready.{readyIn};
 ghost use Rattle.settings.specs.Settings.{numbersSet};
 ghost use Rattle.segment_state.specs.State.{segmentIn, ValidSegment, SetTold};
-ghost use Rattle.hrw.specs.Weight.{digestOf};
 ghost use Rattle.election.specs.Queries.{sourceGroup, electWith};
 ghost use Rattle.export_forms.specs.Forms.{exportedAnswer};
 
@@ -33,12 +32,4 @@ pub extern "C" fn segment_elect_source_group(
 {
     let a = segment::elect_source_group(s, source, group, tag, ready);
     export_forms::exported(a)
-}
-
-// `hrw::digest`. It is not in `exports`, where the plain election is its only caller and takes it in.
-#[no_mangle]
-pub extern "C" fn segment_digest(tag: u32, esi: &[u8; 10]) -> u32
-    ensures { λ r. ⌜ r ≡ digestOf tag (now (esi .entry)) ⌝ }
-{
-    hrw::digest(tag, *esi)
 }

@@ -16,7 +16,7 @@ use lib.Bits.{bitXor, differ, xor-comm, xor-zero-r, xor-lt, xor-shifted, xor-mod
 use Rattle.lists.specs.Lists.{Every}
 use Rattle.lists.proofs.Lists.{every-place, every-take, every-drop}
 use Rattle.octets.specs.Octets.{octetsOf}
-use Rattle.octets.proofs.Laws.{length-octets, octets-octets, elements, take-elements}
+use Rattle.octets.proofs.Laws.{length-octets, octets-octets}
 use Rattle.octet_words.specs.Words.{lowFirst, lowOctets}
 use Rattle.octet_words.proofs.Laws.{low-back}
 use Rattle.crc.specs.Crc.{polynomial, allOnes, crcBit, crcBits, crcOctet, crcOver, crc32Of}
@@ -116,7 +116,7 @@ crcOver-word (suc k) c w h =
     ∙ sym (ap (λ (n : ℕ). crcBits n (bitXor c w)) e ∙ crcBits-add 8 (8 * k) (bitXor c w))
 
 -- the word that octets make has no more octets than these
-low-lt : (s : List ℕ) → Every (λ o. o < 256) s → lowFirst s < 256 ^ length s
+pub low-lt : (s : List ℕ) → Every (λ o. o < 256) s → lowFirst s < 256 ^ length s
 unfolding lowFirst Every
 low-lt [] h = omega arith
 low-lt (x ∷ s) h =
@@ -139,18 +139,6 @@ crcOver-four c s i o h =
     ∙ ap (λ (n : ℕ). crcOver n (drop (i + 4) s)) (crcOver-low c part octets ∙ ap (λ (n : ℕ). crcBits (8 * n) (bitXor c (lowFirst part))) four)
 
 -- ---- digests
-
--- all elements of a run, one by one
-elements-all : (n : ℕ) (s : List ℕ) → length s ≡ n → elements n 0 s ≡ s
-elements-all n s e = sym (take-elements n 0 s (omega arith)) ∙ take-all n s (omega arith)
-
--- the sixteen octets that are made for a digest
-pub padded-octets : (c tag w : ℕ) (head x esi : List ℕ) → head ≡ octetsOf 4 tag → w ≡ lowFirst (take 4 head) → x ≡ lowOctets 4 (bitXor c w) → length esi ≡ 10
-    → 0 ∷ 0 ∷ (elements 4 0 x ++ elements 10 0 esi) ≡ 0 ∷ 0 ∷ (lowOctets 4 (bitXor c (lowFirst (octetsOf 4 tag))) ++ esi)
-unfolding octetsOf lowOctets
-padded-octets c tag w head x esi eh ew ex ee =
-    let whole : x ≡ lowOctets 4 (bitXor c (lowFirst (octetsOf 4 tag))) = ex ∙ ap (λ (n : ℕ). lowOctets 4 (bitXor c n)) (ew ∙ ap (λ (l : List ℕ). lowFirst (take 4 l)) eh) in
-    ap₂ (λ (a b : List ℕ). 0 ∷ 0 ∷ (a ++ b)) (elements-all 4 x (ap length ex) ∙ whole) (elements-all 10 esi ee)
 
 -- zeros leave an empty register empty
 crcOver-zeros : (s : List ℕ) → crcOver 0 (0 ∷ 0 ∷ s) ≡ crcOver 0 s

@@ -1,9 +1,11 @@
 // Highest random weight (HRW): CRC-32, the digest of an Ethernet Tag on a segment, and the weight of an address.
 ghost use mathlib.Core.Path.{_≡_};
 ghost use mathlib.Core.List.{_∷_, _++_};
-ghost use Prim.Native.Nat.{_*_, _/_, _%_, _^_};
-ghost use lib.ListN.{length};
+ghost use Rattle.hrw.specs.Steps.{wordsIn, partOf};
+ghost use Prim.Native.Nat.{_+_, _*_, _/_, _%_, _^_, _<_};
+ghost use lib.ListN.{length, getD};
 ghost use lib.Bits.{bitXor};
+ghost use Rattle.lists.specs.Lists.{Every};
 ghost use Rattle.octets.specs.Octets.{octetsOf};
 ghost use Rattle.octet_words.specs.Words.{lowFirst, lowOctets};
 ghost use Rattle.crc.specs.Crc.{allOnes, crcBits, crcOver, crc32Of};
@@ -85,60 +87,86 @@ pub fn crc32(s: &[u8]) -> u32
     crc_octets(words, &s[whole..]) ^ ALL_ONES
 }
 
-// What every digest ends with, an Ethernet Tag's four octets, high first, then the identifier's ten, as sixteen octets for an empty register: the state so far is
-// mixed into the tag, and before it are two zeros, which leave an empty register empty.
-fn padded(state: u32, tag: u32, esi: [u8; 10]) -> [u8; 16]
-    ensures { λ r. ⌜ r ≡ 0 ∷ 0 ∷ (lowOctets 4 (bitXor state (lowFirst (octetsOf 4 tag))) ++ esi) ⌝ }
+// The word two octets further on in a run of two words: the high half of the one, then the low half of the other.
+fn between(low: u32, high: u32) -> u32
+    ensures { λ r. ⌜ r ≡ low / 65536 + high % 65536 * 65536 ⌝ }
+{
+    low / 65536 + high % 65536 * 65536
+}
+
+// What every digest ends with, an Ethernet Tag's four octets, high first, then the identifier's ten, as four words for an empty register: the state so far is
+// mixed into the tag, and before it are two zeros, which leave an empty register empty. The words are put together here and not from octets in memory, which a load of a word across them would wait for.
+fn padded(state: u32, tag: u32, esi: &[u8]) -> [u32; 4]
+    requires { ⌜ length (now esi) ≡ 10 ⌝ }
+    ensures words { λ r. ⌜ r ≡ wordsIn 4 (0 ∷ 0 ∷ (lowOctets 4 (bitXor state (lowFirst (octetsOf 4 tag))) ++ now (esi .entry))) ⌝ }
+    ensures fits { λ _. ⌜ (state < 2 ^ 32) × Every (λ o. o < 256) (now (esi .entry)) ⌝ }
 {
     let head = octets::of_u32(tag);
-    let x = octet_words::of_low(state ^ octet_words::low_four(&head, 0));
-    [
-        0,
-        0,
-        x[0],
-        x[1],
-        x[2],
-        x[3],
-        esi[0],
-        esi[1],
-        esi[2],
-        esi[3],
-        esi[4],
-        esi[5],
-        esi[6],
-        esi[7],
-        esi[8],
-        esi[9],
-    ]
+    let x = state ^ octet_words::low_four(&head, 0);
+    let a = octet_words::low_four(esi, 0);
+    let b = octet_words::low_four(esi, 4);
+    let c = octet_words::low_two(esi, 8);
+    [between(0, x), between(x, a), between(a, b), between(b, c)]
 }
 
-// The digest that the tag and the identifier end, from any state of the register.
-fn digest_from(state: u32, tag: u32, esi: [u8; 10]) -> u32
-    ensures { λ r. ⌜ r ≡ bitXor (crcOver state (octetsOf 4 tag ++ esi)) allOnes % 2 ^ 31 ⌝ }
+// How many words a part of a digest has: S is part 0, G part 1, and what every digest ends with part 2.
+fn part_len(part: usize, source: &[u8], group: &[u8], last: &[u32]) -> usize
+    ensures { λ r. ⌜ r ≡ length (partOf part (now (source .entry)) (now (group .entry)) (now (last .entry))) ⌝ }
 {
-    let s = padded(state, tag, esi);
-    (crc_words(0, &s) ^ ALL_ONES) % TOP_BIT
+    if part == 0 {
+        return source.len() / 4;
+    }
+    if part == 1 {
+        return group.len() / 4;
+    }
+    last.len()
 }
 
-// The digest D of an Ethernet Tag on a segment: the CRC-32 of the tag's four octets, high first, then the identifier's ten, with the top bit dropped.
-pub fn digest(tag: u32, esi: [u8; 10]) -> u32
-    ensures { λ r. ⌜ r ≡ digestOf tag esi ⌝ }
+// A word of such a part.
+fn part_word(part: usize, i: usize, source: &[u8], group: &[u8], last: &[u32]) -> u32
+    requires { ⌜ i < length (partOf part (now source) (now group) (now last)) ⌝ }
+    ensures { λ r. ⌜ r ≡ getD (partOf part (now (source .entry)) (now (group .entry)) (now (last .entry))) i 0 ⌝ }
 {
-    digest_from(ALL_ONES, tag, esi)
+    if part == 0 {
+        return octet_words::low_four(source, 4 * i);
+    }
+    if part == 1 {
+        return octet_words::low_four(group, 4 * i);
+    }
+    last[i]
 }
 
-// The digest of a multicast flow on a segment: that of the octets of S and of G before those of the tag and the identifier. Of a flow (*,G), S is empty, and nothing
-// is called for it.
+// The digest of a multicast flow on a segment: the CRC-32 of the octets of S and of G, then of the tag's four, high first, and the identifier's ten, with the top bit dropped. Of a flow (*,G), S is empty. The
+// words of each part are gone over in one place, so that the table is asked for in one place: the compiler then writes a loop for each part, and calls nothing.
 pub fn flow_digest(source: &[u8], group: &[u8], tag: u32, esi: [u8; 10]) -> u32
     requires { ⌜ (length (now source) % 4 ≡ 0) × (length (now group) % 4 ≡ 0) ⌝ }
     ensures { λ r. ⌜ r ≡ flowDigestOf (now (source .entry) ++ now (group .entry)) tag esi ⌝ }
 {
-    let mut state = ALL_ONES;
-    if source.len() != 0 {
-        state = crc_words(state, source);
+    let mut r = ALL_ONES;
+    let mut last: [u32; 4] = [0; 4];
+    let mut part = 0;
+    while part < 3 {
+        if part == 2 {
+            last = padded(r, tag, &esi);
+            r = 0;
+        }
+        let n = part_len(part, source, group, &last);
+        let mut i = 0;
+        while i < n {
+            r = crc_word(r ^ part_word(part, i, source, group, &last));
+            i += 1;
+        }
+        part += 1;
     }
-    let after_group = crc_words(state, group);
-    digest_from(after_group, tag, esi)
+    (r ^ ALL_ONES) % TOP_BIT
+}
+
+// The digest D of an Ethernet Tag on a segment: that of the tag and the identifier, with nothing before them.
+pub fn digest(tag: u32, esi: [u8; 10]) -> u32
+    ensures { λ r. ⌜ r ≡ digestOf tag esi ⌝ }
+{
+    let none: [u8; 0] = [0; 0];
+    flow_digest(&none, &none, tag, esi)
 }
 
 // Twice the weight of an address under any digest: a word full, so that no bit is left to cut off. Weights doubled stand in the order of the weights.
