@@ -4,10 +4,10 @@
 use address::Address;
 use rows::Found;
 ghost use mathlib.Core.Path.{_≡_};
-ghost use Prim.Native.Nat.{_≤_, _<_};
+ghost use Prim.Native.Nat.{_+_, _*_, _≤_, _<_};
 ghost use lib.ListN.{length};
-ghost use Rattle.keyed.specs.Keyed.{spliced, dropAt};
-ghost use Rattle.rows.specs.Rows.{rowKey, foundIn};
+ghost use Rattle.keyed.specs.Keyed.{spliced, dropAt, rank};
+ghost use Rattle.rows.specs.Rows.{rowKey, headKey, foundIn};
 ghost use Rattle.address.specs.Address.{addressRow};
 ghost use Rattle.circuit_layout.specs.Circuits.{adRow, circuitWords, circuitsIn, ValidCircuits};
 
@@ -19,6 +19,13 @@ pub enum Scope {
 
 // How many routes of both kinds a table holds.
 pub const CAPACITY: usize = 256;
+
+// How many bits that number takes, and that of fewer routes than FEW: two or three routers have so many for their segment and a few tags.
+const BITS: usize = 9;
+
+const FEW: usize = 32;
+
+const FEW_BITS: usize = 5;
 
 // How many words a table has.
 pub const WORDS: usize = 1793;
@@ -61,6 +68,18 @@ pub fn look(t: &[u32], first: usize, row: &[u32]) -> Found
     let n = count(t);
     let r = rows::search(t, n, first, row);
     r.found
+}
+
+// How many routes stand before those of a kind and tag, whether there are any or none. Among few routes the looks at larger distances are not asked for.
+pub fn before_tag(t: &[u32], kind: u32, tag: u32) -> usize
+    requires { ⌜ ValidCircuits (now t) ⌝ }
+    ensures { λ r. ⌜ r ≡ rank rowKey (headKey 7 (kind * 4294967296 + tag)) (circuitsIn (now (t .entry))) ⌝ }
+{
+    let n = count(t);
+    if n < FEW {
+        return rows::place_of_head(t, n, WIDTH, FEW_BITS, kind, tag);
+    }
+    rows::place_of_head(t, n, WIDTH, BITS, kind, tag)
 }
 
 // One route more, before the one at a place.

@@ -20,7 +20,7 @@ ghost use Rattle.circuit_layout.specs.Circuits.{perSegment, perInstance, circui
 ghost use Rattle.places.specs.Places.{setOf};
 ghost use Rattle.ready.specs.Ready.{candidateSet};
 ghost use Rattle.circuit_ready.specs.Routers.{stands, standsAt, readyFor, readyRouters};
-ghost use Rattle.circuit_ready.specs.Steps.{HeadAt, SameWords};
+ghost use Rattle.circuit_ready.specs.Steps.{HeadAt, StartsAt, SameWords};
 
 // How many words of a route's row, its kind and its tag, stand before its address.
 const HEAD: usize = 2;
@@ -132,17 +132,13 @@ fn circuit_set(t: &[u32], circuits: &[u32], tag: u32) -> u64
     set
 }
 
-// Whether the rows that start at two words, `last` words from each other, begin with a kind and a tag.
-fn heads_are(circuits: &[u32], first: usize, last: usize, kind: u32, tag: u32) -> bool
-    requires { ⌜ first + last + 2 ≤ length (now circuits) ⌝ }
-    ensures { λ r. ⌜ (r ≡ true → HeadAt (now (circuits .entry)) first kind tag × HeadAt (now (circuits .entry)) (first + last) kind tag) ⌝ }
+// Whether the row that starts at a word begins with a kind and a tag.
+fn head_is(circuits: &[u32], start: usize, kind: u32, tag: u32) -> bool
+    requires { ⌜ start + 2 ≤ length (now circuits) ⌝ }
+    ensures { λ r. ⌜ (r ≡ true → HeadAt (now (circuits .entry)) start kind tag) ⌝ }
 {
     let wanted = [kind, tag];
-    if !same_at(circuits, first, &wanted) {
-        return false;
-    }
-    let other = first + last;
-    same_at(circuits, other, &wanted)
+    same_at(circuits, start, &wanted)
 }
 
 // Whether the first n routers' addresses stand in the rows from the first on, and in those from the word `start` on, one after the other. Of each address the first `width` words are compared.
@@ -168,17 +164,18 @@ fn addresses_are(t: &[u32], circuits: &[u32], start: usize, n: usize, width: usi
     true
 }
 
-// Whether the routes of all n routers, which are some, stand side by side: those per segment from the first row on, those per instance of the tag from the word `start` on. Rows rise, so where the first and the
-// last are of one kind and tag, all between them are; and IPv4 addresses stand before others, so where the last is one, all are, and their first two words say them.
+// Whether the routes of all n routers, which are some, stand side by side: those per segment from the first row on, those per instance of the tag from the word `start` on, before which no such route stands. Rows
+// rise, so where the last is of that kind and tag, all from there to it are; and IPv4 addresses stand before others, so where the last is one, all are, and their first two words say them.
 fn together(t: &[u32], circuits: &[u32], start: usize, n: usize, tag: u32) -> bool
-    requires { ⌜ Valid (now t) × ValidCircuits (now circuits) × (n ≡ length (tableIn (now t) .entries)) × (0 < n) × (start % 7 ≡ 0) × (start / 7 + n ≤ length (circuitsIn (now circuits))) ⌝ }
+    requires { ⌜ Valid (now t) × ValidCircuits (now circuits) × (n ≡ length (tableIn (now t) .entries)) × (0 < n) × (start % 7 ≡ 0) × (start / 7 + n ≤ length (circuitsIn (now circuits))) × StartsAt (now circuits) start 2 tag ⌝ }
     ensures { λ r. ⌜ (r ≡ true → (i : ℕ) → i < n → readyFor (circuitsIn (now (circuits .entry))) tag (getD (tableIn (now (t .entry)) .entries) i noEntry .address) ≡ true) ⌝ }
 {
     let last = (n - 1) * WIDTH;
-    if !heads_are(circuits, 0, last, PER_SEGMENT, 0) {
+    if !head_is(circuits, last, PER_SEGMENT, 0) {
         return false;
     }
-    if !heads_are(circuits, start, last, PER_INSTANCE, tag) {
+    let other = start + last;
+    if !head_is(circuits, other, PER_INSTANCE, tag) {
         return false;
     }
     if layout::family_at(t, n - 1) == 4 {
@@ -187,7 +184,7 @@ fn together(t: &[u32], circuits: &[u32], start: usize, n: usize, tag: u32) -> bo
     addresses_are(t, circuits, start, n, address::WIDTH)
 }
 
-// Whether all n routers are ready for a tag and their routes stand side by side, as far as one look for where those of the tag start tells; n may be 0.
+// Whether all n routers are ready for a tag and their routes stand side by side, as far as the place where those of the tag start tells; n may be 0.
 fn all_ready(t: &[u32], circuits: &[u32], n: usize, tag: u32) -> bool
     requires { ⌜ Valid (now t) × ValidCircuits (now circuits) × (n ≡ length (tableIn (now t) .entries)) ⌝ }
     ensures { λ r. ⌜ (r ≡ true → (i : ℕ) → i < n → readyFor (circuitsIn (now (circuits .entry))) tag (getD (tableIn (now (t .entry)) .entries) i noEntry .address) ≡ true) ⌝ }
@@ -195,17 +192,7 @@ fn all_ready(t: &[u32], circuits: &[u32], n: usize, tag: u32) -> bool
     if n == 0 {
         return true;
     }
-    let row = [PER_INSTANCE, tag, 0, 0, 0, 0, 0];
-    let found = circuit_layout::look(circuits, n, &row);
-    let mut place = 0;
-    match found {
-        Found::At(at) => {
-            place = at;
-        }
-        Found::Missing(at) => {
-            place = at;
-        }
-    }
+    let place = circuit_layout::before_tag(circuits, PER_INSTANCE, tag);
     let count = circuit_layout::count(circuits);
     if count <= place {
         return false;

@@ -1,7 +1,6 @@
 // Highest random weight (HRW): CRC-32, the digest of an Ethernet Tag on a segment, and the weight of an address.
 ghost use mathlib.Core.Path.{_≡_};
 ghost use mathlib.Core.List.{_∷_, _++_};
-ghost use Rattle.hrw.specs.Steps.{wordsIn, partOf};
 ghost use Prim.Native.Nat.{_+_, _*_, _/_, _%_, _^_, _<_};
 ghost use lib.ListN.{length, getD};
 ghost use lib.Bits.{bitXor};
@@ -11,6 +10,7 @@ ghost use Rattle.octet_words.specs.Words.{lowFirst, lowOctets};
 ghost use Rattle.crc.specs.Crc.{allOnes, crcBits, crcOver, crc32Of};
 ghost use Rattle.hrw.specs.Weight.{digestOf, flowDigestOf, weightOf};
 ghost use Rattle.hrw.specs.Ties.{TieExactly};
+ghost use Rattle.hrw.specs.Steps.{wordsIn, partOf};
 
 // The CRC register of 32 ones: a CRC starts from it, and is inverted by it at the end.
 const ALL_ONES: u32 = 0xFFFF_FFFF;

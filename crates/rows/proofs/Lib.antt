@@ -3,4 +3,5 @@ pub mod Looks
 pub mod Places
 pub mod Rows
 pub mod Outcomes
+mod Heads
 pub mod Columns

@@ -4,6 +4,7 @@
 --   flat l                    == the words of the rows l, one row after the other
 --   column k c l              == a column of c places for rows of k words that holds the rows l: their words, then zeros
 --   rowKey r                  == the number that the words of a row make in base 2^32, high word first
+--   headKey k h               == the least key that a row of k words has whose first two words make the number h in base 2^32
 --   keyOrder m n              == how the number m stands to the number n
 --   foundIn key m l           == the place of the key m in the list l, or the place at which it would stand
 --   middle lo hi              == the place in the middle between the places lo and hi
@@ -44,6 +45,9 @@ column k c l = flat l ++ replicate ((c - length l) * k) 0
 unfoldable pub rowKey : List ℕ → ℕ
 rowKey [] = 0
 rowKey (w ∷ r) = w * 4294967296 ^ length r + rowKey r
+
+unfoldable pub headKey : ℕ → ℕ → ℕ
+headKey k h = h * 4294967296 ^ (k - 2)
 
 unfoldable pub keyOrder : ℕ → ℕ → Order
 keyOrder m n = cond (ltb m n) Less (cond (ltb n m) Greater Equal)

@@ -1,12 +1,13 @@
 // Rows of words: n rows of k words each at the start of a lent slice, which rise, high word first, each row its own key.
 // The width k and the capacity are the caller's. Every function asks for the bounds that it needs; callers check before they call.
-// Every table lies in such rows: there is one search here, and one insertion and one removal in `gaps`.
+// Every table lies in such rows: there is one search for a row here, one for the place where the rows that start with two words do, and one insertion and one removal in `gaps`.
 ghost use mathlib.Core.Path.{_≡_};
+ghost use mathlib.Core.Bool.{true, false};
 ghost use mathlib.Core.List.{map};
 ghost use Prim.Native.Nat.{_+_, _-_, _*_, _/_, _%_, _^_, _≤_, _<_};
 ghost use lib.ListN.{length, getD, take, drop};
-ghost use Rattle.keyed.specs.Keyed.{Rising};
-ghost use Rattle.rows.specs.Rows.{rowsIn, rowKey, keyOrder, foundIn, middle, Within, looked, looksBetween, firstLook, looksFor};
+ghost use Rattle.keyed.specs.Keyed.{Rising, rank};
+ghost use Rattle.rows.specs.Rows.{rowsIn, rowKey, headKey, keyOrder, foundIn, middle, Within, looked, looksBetween, firstLook, looksFor};
 
 // How one row stands to another.
 pub enum Order {
@@ -169,4 +170,45 @@ pub fn search(s: &[u32], n: usize, first: usize, key: &[u32]) -> Lookup
 {
     let look = first_look(first, n);
     seek(s, n, 0, n, look, 0, key)
+}
+
+// The first two words of the row that starts at word `at`, as one number, the first high.
+fn head_at(s: &[u32], at: usize) -> u64
+    requires { ⌜ at + 2 ≤ length (now s) ⌝ }
+    ensures { λ r. ⌜ r ≡ getD (now (s .entry)) at 0 * 4294967296 + getD (now (s .entry)) (at + 1) 0 ⌝ }
+{
+    let pair = pair_at(s, at);
+    turned(pair)
+}
+
+// Whether so many of the first n rows of k words, one at least, start below a head, two words as one number.
+fn reaches(s: &[u32], n: usize, k: usize, count: usize, head: u64) -> bool
+    requires { ⌜ (2 ≤ k) × (n * k ≤ length (now s)) × Rising rowKey 0 (rowsIn k n (now s)) × (0 < count) ⌝ }
+    ensures reached { λ r. ⌜ (r ≡ true → count ≤ rank rowKey (headKey k head) (rowsIn k n (now (s .entry)))) ⌝ }
+    ensures not_reached { λ r. ⌜ (r ≡ false → rank rowKey (headKey k head) (rowsIn k n (now (s .entry))) < count) ⌝ }
+{
+    if n < count {
+        return false;
+    }
+    let at = (count - 1) * k;
+    head_at(s, at) < head
+}
+
+// How many of the first n rows of k words stand before the first that starts with two words, or with more. Of n places, fewer than 2^bits, half is passed at a time: where `bits` is known
+// where this is called, the compiler writes out each look, with no loop around them.
+pub fn place_of_head(s: &[u32], n: usize, k: usize, bits: usize, x: u32, y: u32) -> usize
+    requires { ⌜ (2 ≤ k) × (n * k ≤ length (now s)) × Rising rowKey 0 (rowsIn k n (now s)) × (n < 2 ^ bits) × (bits ≤ 32) ⌝ }
+    ensures { λ r. ⌜ r ≡ rank rowKey (headKey k (x * 4294967296 + y)) (rowsIn k n (now (s .entry))) ⌝ }
+{
+    let head = (x as u64) * WORD + (y as u64);
+    let mut lo = 0;
+    let mut left = bits;
+    while left != 0 {
+        left -= 1;
+        let next = lo + (1 << left);
+        if reaches(s, n, k, next, head) {
+            lo = next;
+        }
+    }
+    lo
 }

@@ -1,4 +1,4 @@
--- `together` meets its contract: each router's two rows have the kind and the tag of the first and of the last, and its address. Assumes nothing.
+-- `together` meets its contract: each router's two rows have the kind and the tag of the last, and its address. Assumes nothing.
 use Prim.Native.Nat.{ℕ, _+_, _-_, _*_, _≤_, _<_}
 use native.Mathlib.Omega.{arith}
 use mathlib.Core.Path.{_≡_, refl, sym, _∙_}
@@ -23,8 +23,8 @@ use Rattle.circuit_ready.proofs.together.Tie as tie
 inside : (start : tie.Start) → start .args .start + start .args .n * 7 ≤ 1792
 inside start = omega (arith, start .pre .4, start .pre .5, short (start .args .circuits .now) (start .pre .1))
 
-heads-fit : (start : tie.Start) (first : ℕ) → first ≤ start .args .start → first + (start .args .n - 1) * 7 + 2 ≤ length (start .args .circuits .now)
-heads-fit start first l = omega (arith, inside start, start .pre .3, length-valid (start .args .circuits .now) (start .pre .1))
+head-fits : (start : tie.Start) (first : ℕ) → first ≤ start .args .start → first + (start .args .n - 1) * 7 + 2 ≤ length (start .args .circuits .now)
+head-fits start first l = omega (arith, inside start, start .pre .3, length-valid (start .args .circuits .now) (start .pre .1))
 
 -- once the kinds and the tags are told
 module _ (k : tie.Else2) where
@@ -43,7 +43,7 @@ module _ (k : tie.Else2) where
   ready w words same =
       all-stand (from .args .t .now) (from .pre .0) (λ j. known .before .shared-slice-known .given j .fits) (from .args .circuits .now) (from .pre .1) (λ j. known .shared-slice-known2 .given j .fits)
       (from .args .n) (from .args .start) (from .args .tag) (from .pre .2) (from .pre .3) (from .pre .4) (from .pre .5) w words
-      (k .before .before .before .heads-are .ensures (not-false _ (k .before .before .if1 .left))) (k .before .heads-are2 .ensures (not-false _ (k .if2 .left))) same
+      (k .before .before .before .head-is .ensures (not-false _ (k .before .before .if1 .left))) (from .pre .6) (k .before .head-is2 .ensures (not-false _ (k .if2 .left))) same
 
 returns-3 : tie.Need-returns-3
 returns-3 c e =
@@ -56,9 +56,10 @@ together-spec =
     (tie.spec
     (λ c. omega (arith, c .before .before .pre .3))
     (λ c. let start = c .before .before in omega (arith, inside start))
-    (λ c κs. heads-fit (c .before .before) 0 (omega arith))
+    (λ c κs. omega (arith, head-fits (c .before .before) 0 (omega arith)))
     (λ c e. absurd (true-false e refl))
-    (λ c κs. let start = c .before .before .before .before in heads-fit start (start .args .start) (omega arith))
+    (λ c. let start = c .before .before .before .before in omega (arith, inside start))
+    (λ c κs. let start = c .before .before .before .before in head-fits start (start .args .start) (omega arith))
     (λ c e. absurd (true-false e refl))
     (λ c. omega (arith, from c .pre .3))
     (λ c κs. (from c .pre .0, omega (arith, from c .pre .2, from c .pre .3)))
