@@ -70,16 +70,16 @@ pub fn look(t: &[u32], first: usize, row: &[u32]) -> Found
     r.found
 }
 
-// How many routes stand before those of a kind and tag, whether there are any or none. Among few routes the looks at larger distances are not asked for.
-pub fn before_tag(t: &[u32], kind: u32, tag: u32) -> usize
+// The word at which the routes of a kind and tag start, or would start. Among few routes the looks at larger distances are not asked for.
+pub fn start_of_tag(t: &[u32], kind: u32, tag: u32) -> usize
     requires { ⌜ ValidCircuits (now t) ⌝ }
-    ensures { λ r. ⌜ r ≡ rank rowKey (headKey 7 (kind * 4294967296 + tag)) (circuitsIn (now (t .entry))) ⌝ }
+    ensures { λ r. ⌜ r ≡ rank rowKey (headKey 7 (kind * 4294967296 + tag)) (circuitsIn (now (t .entry))) * 7 ⌝ }
 {
     let n = count(t);
     if n < FEW {
-        return rows::place_of_head(t, n, WIDTH, FEW_BITS, kind, tag);
+        return rows::word_of_head(t, n, WIDTH, FEW_BITS, kind, tag);
     }
-    rows::place_of_head(t, n, WIDTH, BITS, kind, tag)
+    rows::word_of_head(t, n, WIDTH, BITS, kind, tag)
 }
 
 // One route more, before the one at a place.

@@ -127,10 +127,13 @@ module _ (b : List ℕ) (h : ValidCircuits b) (o : Words b) where
       by (Instance tag) a e = omega (arith, ap rowKey (first-two (headOf i) (addressIn i) 2 tag a (two-words i l) (sym (in-parts i l) ∙ e)))
 
   -- where those of a kind and tag would start, no row does below them
-  pub tag-starts : (k t i : ℕ) → i ≡ rank rowKey (headKey 7 (k * base + t)) routes → i < length routes → rowKey (k ∷ t ∷ []) ≤ rowKey (headOf i)
+  not-below : (k t i : ℕ) → i ≡ rank rowKey (headKey 7 (k * base + t)) routes → i < length routes → StartsAt b (i * 7) k t
   unfolding headKey
-  tag-starts k t i e l =
+  not-below k t i e l =
       rw (two-key k t) (under-key (base ^ 5) (k * base + t) (rowKey (headOf i)) (rowKey (addressIn i)) (rowKey (getD routes i [])) (low-lt i l) (at-rank (headKey 7 (k * base + t)) routes i (h .sound .rising) e l) (key-parts i l))
+
+  pub tag-starts : (k t w : ℕ) → w ≡ rank rowKey (headKey 7 (k * base + t)) routes * 7 → rank rowKey (headKey 7 (k * base + t)) routes < length routes → StartsAt b w k t
+  tag-starts k t w e l = rw e (not-below k t _ refl l)
 
   -- a row whose kind, tag and address are those of a route is that route. Of an IPv4 address two words are enough
   pub side-stands : (i k t w : ℕ) (a : List ℕ) → i < length routes → IsAddress a → Words a → rowKey (headOf i) ≡ rowKey (k ∷ t ∷ []) → (w ≡ 5) ⊎ ((w ≡ 2) × (getD a 0 0 ≡ 4))

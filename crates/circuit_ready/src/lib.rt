@@ -192,15 +192,11 @@ fn all_ready(t: &[u32], circuits: &[u32], n: usize, tag: u32) -> bool
     if n == 0 {
         return true;
     }
-    let place = circuit_layout::before_tag(circuits, PER_INSTANCE, tag);
-    let count = circuit_layout::count(circuits);
-    if count <= place {
+    let start = circuit_layout::start_of_tag(circuits, PER_INSTANCE, tag);
+    let end = circuit_layout::count(circuits) * WIDTH;
+    if end < start + n * WIDTH {
         return false;
     }
-    if count - place < n {
-        return false;
-    }
-    let start = place * WIDTH;
     together(t, circuits, start, n, tag)
 }
 

@@ -1,11 +1,12 @@
 -- Rows by their first two words: where a row starts below a head its key is below the head's, and else it is not. Assumes nothing.
-use Prim.Native.Nat.{ℕ, zero, suc, _+_, _-_, _*_, _^_, _≤_, _<_}
-use native.Mathlib.Nat.{mul-le-mul-right, suc-mul}
+use Prim.Native.Nat.{ℕ, zero, suc, _+_, _-_, _*_, _/_, _%_, _^_, _≤_, _<_}
+use native.Mathlib.Nat.{mul-le-mul-right, suc-mul, one-mul, div-add-mod', add-mul-mod-self-right, add-mul-div-right}
 use native.Mathlib.Omega.{arith}
 use mathlib.Core.Path.{_≡_, refl, ap, ap₂, sym, _∙_}
 use mathlib.Core.List.{List, [], _∷_, _++_}
 use lib.ListN.{length, getD, take, drop, take-append-drop, length-drop}
 use lib.Seq.{length-take-le, drop-cons, getD-take, getD-drop}
+use Rattle.lists.proofs.Numbers.{either}
 use Rattle.keyed.specs.Keyed.{Rising, rank}
 use Rattle.keyed.proofs.Keyed.{rank-below, rank-above}
 use Rattle.rows.specs.Rows.{rowsIn, rowKey, headKey}
@@ -59,3 +60,26 @@ module _ (k n h : ℕ) (s : List ℕ) (two : 2 ≤ k) (fits : n * k ≤ length s
 
   pub not-passed : h ≤ head → rank rowKey (headKey k h) (rowsIn k n s) ≤ i
   not-passed l = rank-below rowKey (headKey k h) (rowsIn k n s) i [] (rw rows-length used) (rw place (not-below l))
+
+-- WHOLE ROWS of k words before a word, which are w / k
+module _ (k w : ℕ) (whole : w % k ≡ 0) where
+  pub split-words : w ≡ w / k * k
+  split-words = sym (div-add-mod' w k) ∙ ap (λ (z : ℕ). w / k * k + z) whole ∙ omega arith
+
+  pub whole-rows : 0 < w / k → k ≤ w
+  whole-rows h = omega (arith, split-words, mul-le-mul-right k h, one-mul k)
+
+  pub row-before : 2 ≤ k → 0 < w / k → w - k ≡ (w / k - 1) * k
+  row-before two h =
+      let e : w / k ≡ suc (w / k - 1) = omega arith in
+      omega (arith, split-words, ap (λ (q : ℕ). q * k) e, suc-mul (w / k - 1) k)
+
+  pub rows-over : (n : ℕ) → 2 ≤ k → n * k < w → n < w / k
+  rows-over n two h = either n (w / k) (λ g. g) (λ g. absurd (omega (arith, split-words, mul-le-mul-right k g)))
+
+  pub rows-within : (n : ℕ) → 2 ≤ k → w ≤ n * k → w / k ≤ n
+  rows-within n two h = either n (w / k) (λ g. absurd (omega (arith, split-words, suc-mul n k, mul-le-mul-right k g))) (λ g. g)
+
+-- so many rows more
+pub more-rows : (k w c : ℕ) → 2 ≤ k → w % k ≡ 0 → ((w + c * k) % k ≡ 0) × ((w + c * k) / k ≡ w / k + c)
+more-rows k w c two h = (add-mul-mod-self-right w c k ∙ h, add-mul-div-right w c {z = k} (omega arith))

@@ -181,32 +181,33 @@ fn head_at(s: &[u32], at: usize) -> u64
     turned(pair)
 }
 
-// Whether so many of the first n rows of k words, one at least, start below a head, two words as one number.
-fn reaches(s: &[u32], n: usize, k: usize, count: usize, head: u64) -> bool
-    requires { ⌜ (2 ≤ k) × (n * k ≤ length (now s)) × Rising rowKey 0 (rowsIn k n (now s)) × (0 < count) ⌝ }
-    ensures reached { λ r. ⌜ (r ≡ true → count ≤ rank rowKey (headKey k head) (rowsIn k n (now (s .entry)))) ⌝ }
-    ensures not_reached { λ r. ⌜ (r ≡ false → rank rowKey (headKey k head) (rowsIn k n (now (s .entry))) < count) ⌝ }
+// Whether the rows of k words before the word `next`, one at least, are among those before the word `end`, where the first n rows end, and start below a head, two words as one number.
+fn reaches(s: &[u32], n: usize, k: usize, end: usize, next: usize, head: u64) -> bool
+    requires { ⌜ (2 ≤ k) × (end ≡ n * k) × (end ≤ length (now s)) × Rising rowKey 0 (rowsIn k n (now s)) × (next % k ≡ 0) × (0 < next / k) ⌝ }
+    ensures reached { λ r. ⌜ (r ≡ true → next / k ≤ rank rowKey (headKey k head) (rowsIn k n (now (s .entry)))) ⌝ }
+    ensures not_reached { λ r. ⌜ (r ≡ false → rank rowKey (headKey k head) (rowsIn k n (now (s .entry))) < next / k) ⌝ }
 {
-    if n < count {
+    if end < next {
         return false;
     }
-    let at = (count - 1) * k;
+    let at = next - k;
     head_at(s, at) < head
 }
 
-// How many of the first n rows of k words stand before the first that starts with two words, or with more. Of n places, fewer than 2^bits, half is passed at a time: where `bits` is known
-// where this is called, the compiler writes out each look, with no loop around them.
-pub fn place_of_head(s: &[u32], n: usize, k: usize, bits: usize, x: u32, y: u32) -> usize
-    requires { ⌜ (2 ≤ k) × (n * k ≤ length (now s)) × Rising rowKey 0 (rowsIn k n (now s)) × (n < 2 ^ bits) × (bits ≤ 32) ⌝ }
-    ensures { λ r. ⌜ r ≡ rank rowKey (headKey k (x * 4294967296 + y)) (rowsIn k n (now (s .entry))) ⌝ }
+// The word at which, of the first n rows of k words, the first stands that starts with two words, or with more; or the word behind the last. Of n places, fewer than 2^bits, half is passed at a
+// time: where `bits` and k are known where this is called, the compiler writes out each look, with no loop around them.
+pub fn word_of_head(s: &[u32], n: usize, k: usize, bits: usize, x: u32, y: u32) -> usize
+    requires { ⌜ (2 ≤ k) × (k < 2 ^ 16) × (n * k ≤ length (now s)) × Rising rowKey 0 (rowsIn k n (now s)) × (n < 2 ^ bits) × (bits ≤ 32) ⌝ }
+    ensures { λ r. ⌜ r ≡ rank rowKey (headKey k (x * 4294967296 + y)) (rowsIn k n (now (s .entry))) * k ⌝ }
 {
     let head = (x as u64) * WORD + (y as u64);
+    let end = n * k;
     let mut lo = 0;
     let mut left = bits;
     while left != 0 {
         left -= 1;
-        let next = lo + (1 << left);
-        if reaches(s, n, k, next, head) {
+        let next = lo + (1 << left) * k;
+        if reaches(s, n, k, end, next, head) {
             lo = next;
         }
     }
