@@ -53,6 +53,7 @@ module _ {A : Type 0} where
 
     pub every-mem : (l : List A) → Every P l → (x : A) → Memᴰ x l → P x
     unfolding Every
+    every-mem [] h x x4 = elim x4 [ ]
     every-mem (y ∷ l) h x (Memᴰ.head e) = subst P (sym e) h.0
     every-mem (y ∷ l) h x (Memᴰ.tail m) = every-mem l h.1 x m
 
