@@ -1,17 +1,19 @@
 // The originator address of a route, of either family. Addresses are compared by their keys: the number that the 17 octets of an address make, the family
 // before the address. An address is kept as a row of words (`rows`), and the row has the same key.
+#![tactic(auto)]
+
 ghost use Rattle.std.specs.Prelude.{◌≡◌, [], ◌∷◌};
 ghost use Rattle.address.specs.Address.{is_zero, address_row, octets_in, IsAddress, SeventeenOctets};
 
 // The family of an address. No number that names neither can be handed in.
-#[derive(Drop)]
+#[derive(Clone, Copy)]
 pub enum Family {
     V4,
     V6,
 }
 
 // An address: its family and sixteen octets as four words, high octet first. An IPv4 address is in the first word, and the others don't count.
-#[derive(Drop)]
+#[derive(Clone, Copy)]
 pub struct Address {
     pub family: Family,
     pub w0: u32,

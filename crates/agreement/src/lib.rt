@@ -1,4 +1,6 @@
 // The algorithm and the AC-DF bit that an election goes by: what all routes of the table agree on.
+#![tactic(auto)]
+
 ghost use Rattle.std.specs.Prelude.{◌≡◌, ◌<◌, length, get_or};
 ghost use Rattle.layout.specs.Table.{no_entry};
 ghost use Rattle.layout.specs.Words.{kind_of, table_in, Valid};
@@ -7,7 +9,7 @@ ghost use Rattle.agreement.specs.Agreement.{usable, in_use_with};
 ghost use Rattle.agreement.specs.Steps.{all_of_kind};
 
 // The algorithm and the AC-DF bit in use.
-#[derive(Drop)]
+#[derive(Clone, Copy)]
 pub struct InUse {
     pub algorithm: u8,
     pub ac_df: bool,

@@ -1,4 +1,6 @@
 // A route announced to the table of its segment (`table`): the route is checked, its communities are read, and its entry is stored.
+#![tactic(auto)]
+
 ghost use Rattle.std.specs.Prelude.{◌<◌};
 ghost use Rattle.address.specs.Address.{address_row};
 ghost use Rattle.route.specs.Route.{Fault, route_number};

@@ -1,5 +1,7 @@
 // The answer lines of the bench program (document 01, "The bench program"): one for each record, put into a lent buffer. A line has at most 48 octets. That of
 // a query is put by `query_lines`.
+#![tactic(auto)]
+
 ghost use Rattle.std.specs.Prelude.{◌≡◌, ◌+◌, ◌≤◌, length};
 ghost use Rattle.lines.specs.Lines.{Put};
 ghost use Rattle.answer_lines.specs.AnswerLines.{bad_line, line, offset_line, has_offset, read_line, Written};

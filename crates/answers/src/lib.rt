@@ -1,5 +1,7 @@
 // What an election answers once its candidates are known: the digest of the tag or of a multicast flow, the place that is elected for a tag, and the whole answer
 // that names the router there, or a refusal.
+#![tactic(auto)]
+
 ghost use Rattle.std.specs.Prelude.{◌≡◌, ◌++◌, ◌%◌, ◌^◌, ◌<◌, length, get_or};
 ghost use Rattle.std.specs.Int.Count.{ones};
 ghost use Rattle.layout.specs.Table.{no_entry};
@@ -10,7 +12,7 @@ ghost use Rattle.answers.specs.Answers.{refused_answer, named_answer};
 ghost use Rattle.answers.specs.Steps.{digest_under, ElectedAt};
 
 // The whole answer: 0 and the elected address, its family (4 or 6) and sixteen octets in four words, an IPv4 address in the first, then zeros; the algorithm in use, the number N of candidates and their set; or a refusal number and zeros.
-#[derive(Drop)]
+#[derive(Clone, Copy)]
 pub struct Answer {
     pub number: u8,
     pub family: u8,

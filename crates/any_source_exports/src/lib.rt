@@ -1,4 +1,6 @@
 // One call to a function, as in `flow_exports`: the election for a multicast flow (*,G), an archive of its own again.
+#![tactic(auto)]
+
 ghost use Rattle.std.specs.Prelude.{◌≡◌};
 ghost use Rattle.ready.specs.Ready.{ready_in};
 ghost use Rattle.segment_state.specs.State.{segment_in, ValidSegment};

@@ -1,4 +1,6 @@
 // The second in line (document 02, M-113): who is elected among the candidates without the forwarder, so that a router knows whether it is the one to take over.
+#![tactic(auto)]
+
 ghost use Rattle.std.specs.Prelude.{◌≡◌, false, ◌<◌, ◌^◌, length, get_or};
 ghost use Rattle.tags.specs.Tags.{reserved_tag};
 ghost use Rattle.layout.specs.Table.{no_entry};
@@ -23,7 +25,7 @@ const MAX_READY: usize = 64;
 
 // The whole answer: 0 and the backup's address, its family (4 or 6) and sixteen octets in four words, an IPv4 address in the first, then zeros; or a refusal number and zeros.
 #[repr(C)]
-#[derive(Drop)]
+#[derive(Clone, Copy)]
 pub struct Backup {
     pub number: u8,
     pub family: u8,

@@ -1,4 +1,6 @@
 // What users link for the second in line (document 02, M-113), through `segment`: the calls that name the backup upon the state of a segment, by a ready list or by the A-D routes of a second table.
+#![tactic(auto)]
+
 ghost use Rattle.std.specs.Prelude.{◌≡◌};
 ghost use Rattle.ready.specs.Ready.{ready_in};
 ghost use Rattle.circuit_layout.specs.Circuits.{circuits_in, ValidCircuits};

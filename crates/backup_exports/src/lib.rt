@@ -1,4 +1,6 @@
 // One call to a function, as in `exports`: those that name the backup. They are an archive of their own, so that they are compiled as for a program that elects by no other call.
+#![tactic(auto)]
+
 ghost use Rattle.std.specs.Prelude.{◌≡◌};
 ghost use Rattle.ready.specs.Ready.{ready_in};
 ghost use Rattle.circuit_layout.specs.Circuits.{circuits_in, ValidCircuits};
@@ -11,7 +13,7 @@ use backup::Backup as Named;
 
 // The answer that names the backup, laid out as C lays it out.
 #[repr(C)]
-#[derive(Drop)]
+#[derive(Clone, Copy)]
 pub struct Backup {
     pub number: u8,
     pub family: u8,

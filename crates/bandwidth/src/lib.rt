@@ -1,5 +1,7 @@
 // A preference that follows bandwidth: a lost link lowers it by a step, a mended one raises it. The sum is what a returning router takes as its
 // administrative preference.
+#![tactic(auto)]
+
 ghost use Rattle.std.specs.Prelude.{◌≡◌};
 ghost use Rattle.bandwidth.specs.Bandwidth.{add_step, GivesBack, KeepsOrder};
 
@@ -12,7 +14,7 @@ pub const MIN_STEP: i32 = -65_535;
 pub const MAX_STEP: i32 = 65_535;
 
 // The answer: 0 and the sum, or a refusal number and 0.
-#[derive(Drop)]
+#[derive(Clone, Copy)]
 pub struct Sum {
     pub number: u8,
     pub preference: u16,

@@ -1,6 +1,8 @@
 // The bench program (document 01, "The bench program"): records on standard input, answer lines on standard output. All that matters is in `blocks` and
 // `records`; here octets are read, handed to `blocks::take_block`, and what it made is written. Input of any length is taken in constant memory: the
 // next octets are read behind those that are left of the last ones. A read or a write that fails is told on standard error.
+#![tactic(auto)]
+
 ghost use Rattle.std.specs.Prelude.{◌≤◌, ◌<◌, length};
 ghost use Rattle.layout.specs.Words.{Valid};
 
@@ -9,7 +11,7 @@ use libc::{STDERR_FILENO, STDIN_FILENO, STDOUT_FILENO};
 use turns::Phase;
 
 // Where the program stands: the phase of the run, how many octets of the block are filled, and whether there is more to do.
-#[derive(Drop)]
+#[derive(Clone, Copy)]
 struct Work {
     phase: Phase,
     filled: usize,

@@ -1,6 +1,8 @@
 // Blocks of input taken record by record (document 01, "The bench program"): what stands at a position of the block is taken by `records`, as long as
 // the records are whole and their lines find room, and what is left over is kept at the block's front. A run's start and end are in `run_ends`; reading and writing is the
 // program's.
+#![tactic(auto)]
+
 ghost use Rattle.std.specs.Prelude.{◌≡◌, true, false, ◌+◌, ◌≤◌, min, length};
 ghost use Rattle.octets.specs.Octets.{stored};
 ghost use Rattle.layout.specs.Words.{Valid};
@@ -14,7 +16,7 @@ use turns::Phase;
 
 // What is to be done next, once the output is written: nothing, as the run has ended; the block is to be taken again, as a line may not have found room;
 // more input is to be read, as what is kept is no whole record.
-#[derive(Drop)]
+#[derive(Clone, Copy)]
 pub enum Next {
     Done,
     Again,
@@ -22,7 +24,7 @@ pub enum Next {
 }
 
 // What taking a block answers: the phase, how many octets are kept at the front of the block, how many octets of output are made, and what is next.
-#[derive(Drop)]
+#[derive(Clone, Copy)]
 pub struct Taken {
     pub phase: Phase,
     pub left: usize,
@@ -31,7 +33,7 @@ pub struct Taken {
 }
 
 // How far the octets of a block were taken: the phase, how many octets of input are used, and how many octets of output are made.
-#[derive(Drop)]
+#[derive(Clone, Copy)]
 struct Progress {
     phase: Phase,
     used: usize,

@@ -1,5 +1,7 @@
 // A list of candidates kept as records (document 02, M-113): the backup among them under algorithm 2 or 3, which the caller names. The walk is the one function that has the lent list: it hands
 // each record by value to `push`, which puts it among the entries of a route table, and what was loaded to `backup_of`.
+#![tactic(auto)]
+
 ghost use Rattle.std.specs.Prelude.{◌≡◌, ◌<◌, length};
 ghost use mathlib.Core.List.{List, map, Permᴰ};
 ghost use Rattle.layout.specs.Words.{table_in};
@@ -26,7 +28,7 @@ const HIGHEST_PREFERENCE: u8 = 2;
 
 // A candidate: its address, the family (4 or 6) and four words, an IPv4 address in the first, where the others don't count; its preference and its DP bit, which in C is 0 or 1 and nothing else.
 #[repr(C)]
-#[derive(Drop)]
+#[derive(Clone, Copy)]
 pub struct Candidate {
     pub family: u8,
     pub w0: u32,
@@ -45,7 +47,7 @@ struct Loaded {
 }
 
 // The address of a record, unless it has none.
-#[derive(Drop)]
+#[derive(Clone, Copy)]
 enum Originator {
     Known(Address),
     Nobody,

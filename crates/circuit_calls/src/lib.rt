@@ -1,5 +1,7 @@
 // What users link of the table of Ethernet A-D routes, through `segment`: its calls and the election over both tables. A table is 1,793 words, which the fresh call
 // makes and the others are lent. The fresh call promises demand 3 of every list of calls; each call promises that it is one more call of the list.
+#![tactic(auto)]
+
 ghost use Rattle.std.specs.Prelude.{◌≡◌, List, []};
 ghost use Rattle.std.specs.Int.Count.{ones};
 ghost use Rattle.address.specs.Address.{address_row};

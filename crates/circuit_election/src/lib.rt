@@ -1,4 +1,6 @@
 // The election over both tables: its candidates come from the A-D routes of a second table (`circuit_ready`), and not from a ready list.
+#![tactic(auto)]
+
 ghost use Rattle.std.specs.Prelude.{◌≡◌};
 ghost use Rattle.std.specs.Int.Count.{ones};
 ghost use Rattle.layout.specs.Words.{table_in, Valid};

@@ -1,5 +1,7 @@
 // One call to a function, as in `exports`: those of the table of A-D routes, and the election over both tables. They are an archive of their own, so that each
 // election is compiled as it is for a program that calls only that one.
+#![tactic(auto)]
+
 ghost use Rattle.std.specs.Prelude.{◌≡◌, []};
 ghost use Rattle.address.specs.Address.{address_row};
 ghost use Rattle.segment_state.specs.State.{segment_in, ValidSegment};

@@ -1,6 +1,8 @@
 // A table of Ethernet A-D routes in words that a caller lends: 256 rows of seven words in rising order (the kind of the route, its tag, its address), then the
 // number of routes.
 // Unused places are zero. What lies where is known here, and in `circuit_ready`, which compares a row where it stands; the calls are in `circuits`.
+#![tactic(auto)]
+
 ghost use Rattle.std.specs.Prelude.{◌≡◌, ◌+◌, ◌*◌, ◌≤◌, ◌<◌, length};
 ghost use Rattle.keyed.specs.Keyed.{spliced, without_at, rank};
 ghost use Rattle.rows.specs.Rows.{row_key, head_key, found_in};
@@ -11,7 +13,7 @@ use address::Address;
 use rows::Found;
 
 // What an Ethernet A-D route is announced for: a whole segment (per ES), or one tag on it (per EVI).
-#[derive(Drop)]
+#[derive(Clone, Copy)]
 pub enum Scope {
     Segment,
     Instance(u32),

@@ -1,4 +1,6 @@
 // Which routers of a route table are ready for a tag by their Ethernet A-D routes, as a set of places: those whose two routes stand.
+#![tactic(auto)]
+
 ghost use Rattle.std.specs.Prelude.{◌≡◌, true, ◌&&◌, ◌∷◌, map, ℕ, ◌+◌, ◌*◌, ◌/◌, ◌%◌, ◌≤◌, ◌<◌, length, get_or, take, drop, eqb};
 ghost use Rattle.lists.specs.Lists.{bit};
 ghost use Rattle.keyed.specs.Keyed.{rank};
@@ -19,7 +21,7 @@ use rows::{Found, Order};
 const HEAD: usize = 2;
 
 // Whether a route stands, and where the next look starts: after it, or at the place where it would stand.
-#[derive(Drop)]
+#[derive(Clone, Copy)]
 struct Seen {
     stands: bool,
     next: usize,

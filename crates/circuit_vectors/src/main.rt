@@ -1,4 +1,6 @@
 // Circuits that go down and come up again: the example of docs/circuits.md, run and printed beside what it should be.
+#![tactic(auto)]
+
 ghost use Rattle.segment_state.specs.State.{ValidSegment};
 ghost use Rattle.circuit_layout.specs.Circuits.{ValidCircuits};
 

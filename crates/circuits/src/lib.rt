@@ -1,5 +1,7 @@
 // The table of Ethernet A-D routes: at most 256 of both kinds together, announced and withdrawn. It lies in words that the caller lends (`circuit_layout`).
 // A refused call leaves them as they were.
+#![tactic(auto)]
+
 ghost use Rattle.std.specs.Prelude.{◌≡◌, []};
 ghost use Rattle.address.specs.Address.{address_row};
 ghost use Rattle.circuit_layout.specs.Circuits.{reserved_scope, circuits_in, ValidCircuits};

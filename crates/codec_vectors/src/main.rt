@@ -1,5 +1,7 @@
 // Runs the readers and the digest on outside values and prints each beside what it should be: the offsets of document 02's M-103, where a text or a
 // route is wrong, and the check value of CRC-32.
+#![tactic(auto)]
+
 use example_tables::{empty_table, route_of};
 use vector_lines::{show_hex, show_offset};
 

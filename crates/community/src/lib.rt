@@ -1,4 +1,6 @@
 // The DF Election Extended Community: writing one, and reading the list of communities that a route comes with.
+#![tactic(auto)]
+
 ghost use Rattle.std.specs.Prelude.{◌≡◌, cond, ◌&&◌, ◌+◌, ◌≤◌, ◌%◌, length, take, drop, eqb};
 ghost use Rattle.community.specs.Community.{election_under, read_community, read_list, write_number, community_written};
 ghost use Rattle.community.specs.Search.{FirstFrom};
@@ -6,7 +8,7 @@ ghost use Rattle.community.specs.Search.{FirstFrom};
 use refusals::{ALGORITHM_NOT_USABLE, BUFFER_SHORT, LIST_LENGTH};
 
 // What a route says of the election: document 01's entry without its address.
-#[derive(Drop)]
+#[derive(Clone, Copy)]
 pub struct Election {
     pub algorithm: u8,
     pub ac_df: bool,
@@ -15,14 +17,14 @@ pub struct Election {
 }
 
 // The number of a reading, and what was read.
-#[derive(Drop)]
+#[derive(Clone, Copy)]
 pub struct ListRead {
     pub number: u8,
     pub election: Election,
 }
 
 // Where an election community starts in a list.
-#[derive(Drop)]
+#[derive(Clone, Copy)]
 pub enum CommunityStart {
     At(usize),
     Nowhere,

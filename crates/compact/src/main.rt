@@ -1,6 +1,8 @@
 // The program that makes a log short (document 02, M-112): a log of bench records on standard input, the records of the table that it leaves on standard output. A log that
 // prints `x 16`, or whose first record is refused, leaves none: nothing is written, and standard error says so. An empty log is short already. All that matters is in `blocks`
 // and `compaction`; here octets are read and handed on, and the lines that the records print are not written. A log of any length is taken in constant memory.
+#![tactic(auto)]
+
 ghost use Rattle.std.specs.Prelude.{◌≤◌, ◌<◌, length};
 ghost use Rattle.layout.specs.Words.{Valid};
 
@@ -9,7 +11,7 @@ use libc::{STDERR_FILENO, STDIN_FILENO, STDOUT_FILENO};
 use turns::Phase;
 
 // Where the program stands: the phase of the run, how many octets of the block are filled, and whether there is more to do.
-#[derive(Drop)]
+#[derive(Clone, Copy)]
 struct Work {
     phase: Phase,
     filled: usize,

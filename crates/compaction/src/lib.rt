@@ -1,4 +1,6 @@
 // A log of bench records made short (document 02, M-112): the table that it leaves, written out as a run of records, which leaves the same table.
+#![tactic(auto)]
+
 ghost use Rattle.std.specs.Prelude.{◌≡◌, List, ℕ, length, take};
 ghost use Rattle.layout.specs.Words.{table_in, Valid};
 ghost use Rattle.segment_state.specs.State.{segment_in, ValidSegment};

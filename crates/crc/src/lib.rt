@@ -1,5 +1,7 @@
 // What an octet makes of an empty CRC register, the CRC table of IEEE 802.3. A `match` on a number becomes one load from a table that is not laid out again at
 // each call, as a constant array would be.
+#![tactic(auto)]
+
 ghost use Rattle.std.specs.Prelude.{◌≡◌, ◌-◌, ◌≤◌, ◌<◌};
 ghost use Rattle.crc.specs.Crc.{crc_octet};
 

@@ -1,5 +1,7 @@
 // The last announcement of an address in two dumps of bench records, and the digest of a tag, exported as the calls in `exports` are, and not for a daemon. No exported function returns a part of what it is
 // lent, so the part is put where `part` points: C sees a pointer and a count there, and so which dump the part lies in, and where.
+#![tactic(auto)]
+
 ghost use Rattle.std.specs.Prelude.{◌≡◌};
 ghost use Rattle.address.specs.Address.{address_row};
 ghost use Rattle.hrw.specs.Weight.{digest_of};

@@ -1,5 +1,7 @@
 // The last announcement of a router in two dumps (document 02, M-111): the example of docs/bench.md, run and printed beside what it should be. A record is known by its length: 29 octets without
 // a community, 37 with one.
+#![tactic(auto)]
+
 ghost use Rattle.std.specs.Prelude.{◌<◌};
 
 use address::{Address, Family};

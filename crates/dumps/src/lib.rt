@@ -1,5 +1,7 @@
 // The last announcement of an address in two dumps of bench records (document 02, M-111; a dump is that document's word for a run of records as it was kept). One pass over
 // each dump, in which nothing is kept but places. The records are cut by `frames` and judged by `judgement`, as the bench program's are.
+#![tactic(auto)]
+
 ghost use Rattle.std.specs.Prelude.{◌≡◌, [], ◌∷◌, ◌≤◌, length, get_or};
 ghost use Rattle.octets.specs.Octets.{same_numbers};
 ghost use Rattle.address.specs.Address.{address_row};
@@ -15,7 +17,7 @@ use refusals::{ADDRESS_ZERO, BAD_RECORD, NOT_PRESENT};
 
 // Where a record of a dump stands: with the number 0 its octets, mark and length included, are `len` from `start` on. With 9 there is no such record, and with 16 the dump breaks
 // the rules of records.
-#[derive(Drop)]
+#[derive(Clone, Copy)]
 struct Place {
     number: u8,
     start: usize,
@@ -23,7 +25,7 @@ struct Place {
 }
 
 // What stands at a position of a dump: its end, a record that breaks the rules, or a good one, passed over or counted, with the position after it.
-#[derive(Drop)]
+#[derive(Clone, Copy)]
 enum Read {
     End,
     Broken,

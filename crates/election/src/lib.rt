@@ -1,5 +1,7 @@
 // The Designated Forwarder election for one Ethernet Tag, with what the operator has set: the algorithm in use (`agreement`), the candidates (`ready`), and the
 // answer (`answers`). A query is plain, or for a multicast flow; those for a flow are asked in `flow_election`.
+#![tactic(auto)]
+
 ghost use Rattle.std.specs.Prelude.{◌≡◌, true, false, cond, [], ◌++◌, ◌%◌, length};
 ghost use Rattle.std.specs.Int.Count.{ones};
 ghost use Rattle.tags.specs.Tags.{reserved_tag};
@@ -54,7 +56,7 @@ fn octets_if(by_flow: bool, s: &[u8]) -> &[u8]
 }
 
 // How a query is answered: the algorithm and the digest by which a router is elected, and the algorithm that the answer tells.
-#[derive(Drop)]
+#[derive(Clone, Copy)]
 struct Means {
     algorithm: u8,
     digest: u32,

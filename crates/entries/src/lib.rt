@@ -1,4 +1,6 @@
 // The entries of a table in its words: an address looked up, other attributes for an entry, an entry more, an entry less.
+#![tactic(auto)]
+
 ghost use Rattle.std.specs.Prelude.{◌≡◌, [], ◌∷◌, map, ℕ, ◌≤◌, ◌<◌, length, get_or, set};
 ghost use Rattle.keyed.specs.Keyed.{spliced, without_at};
 ghost use Rattle.rows.specs.Rows.{key_order, found_in, looks_between, looks_for};

@@ -1,4 +1,6 @@
 // The Ethernet Segment Identifier (ESI) of RFC 7432: which ones are reserved, and the text of one (document 01's plate).
+#![tactic(auto)]
+
 ghost use Rattle.std.specs.Prelude.{◌≡◌, ◌<◌, true, length, take};
 ghost use Rattle.esi.specs.Reserved.{reserved};
 ghost use Rattle.esi.specs.Text.{
@@ -32,7 +34,7 @@ const COLON: u8 = b':';
 
 // What reading a text gives: 0, offset 0 and the identifier, or a refusal number, an offset and ten zeros. With 13 the offset is that of the
 // first fault, with 4 it is 0.
-#[derive(Drop)]
+#[derive(Clone, Copy)]
 pub struct TextRead {
     pub number: u8,
     pub offset: usize,

@@ -1,4 +1,6 @@
 // The tables of the programs that run outside values, all of one segment: router n has the address 10.0.0.n. Each is a segment's state, with none set.
+#![tactic(auto)]
+
 ghost use Rattle.segment_state.specs.State.{ValidSegment};
 
 use address::{Address, Family};
@@ -30,7 +32,7 @@ pub struct Table {
 }
 
 // What an announcement answers, and the table after it.
-#[derive(Drop)]
+#[derive(Clone, Copy)]
 pub struct Change {
     pub number: u8,
     pub offset: usize,

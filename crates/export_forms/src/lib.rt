@@ -1,4 +1,6 @@
 // What the exported calls of both tables hand in and hand back: an address of plain numbers, and the answer of an election laid out as C lays it out.
+#![tactic(auto)]
+
 ghost use Rattle.std.specs.Prelude.{◌≡◌};
 ghost use Rattle.export_forms.specs.Forms.{exported_answer, handed_in};
 
@@ -7,7 +9,7 @@ use answers::Answer as Elected;
 
 // The answer of an election.
 #[repr(C)]
-#[derive(Drop)]
+#[derive(Clone, Copy)]
 pub struct Answer {
     pub number: u8,
     pub family: u8,

@@ -1,5 +1,7 @@
 // One call to a function, for programs in Rust: benchmarks/ counts and times these, and its tests compare their answers with independent ones.
 // They are not for a daemon: nothing tests that the words lent are those of a segment's state (`ValidSegment`), which benchmarks/src/proved.rs sees to by a type.
+#![tactic(auto)]
+
 ghost use Rattle.std.specs.Prelude.{◌≡◌};
 ghost use Rattle.address.specs.Address.{address_row};
 ghost use Rattle.ready.specs.Ready.{ready_in};
@@ -16,14 +18,14 @@ use segment::WORDS;
 
 // The answers of the calls, laid out as C lays them out.
 #[repr(C)]
-#[derive(Drop)]
+#[derive(Clone, Copy)]
 pub struct Verdict {
     pub number: u8,
     pub offset: usize,
 }
 
 #[repr(C)]
-#[derive(Drop)]
+#[derive(Clone, Copy)]
 pub struct Sent {
     pub number: u8,
     pub preference: u16,

@@ -1,5 +1,7 @@
 // What users link for multicast flows (document 02, M-106), through `segment`: the setting of the algorithm numbers and the elections for the flows (S,G) and (*,G), upon the
 // state of a segment. Each call promises that it is one more call of the list.
+#![tactic(auto)]
+
 ghost use Rattle.std.specs.Prelude.{◌≡◌};
 ghost use Rattle.std.specs.Int.Count.{ones};
 ghost use Rattle.ready.specs.Ready.{ready_in};

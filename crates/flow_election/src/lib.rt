@@ -1,5 +1,7 @@
 // The election for a multicast flow (document 02, M-106): for (S,G), by the octets of the source S and of the group G, and for (*,G), by those of the group. They are
 // not looked into.
+#![tactic(auto)]
+
 ghost use Rattle.std.specs.Prelude.{◌≡◌, ◌&&◌, eqb};
 ghost use Rattle.layout.specs.Words.{table_in, Valid};
 ghost use Rattle.settings.specs.Settings.{settings_in, ValidSettings};

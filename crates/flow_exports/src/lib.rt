@@ -1,5 +1,7 @@
 // One call to a function, as in `exports`: the setting of the numbers, and the election for a multicast flow (S,G). They are an archive of their own, so that each election is
 // compiled as it is for a program that calls only that one.
+#![tactic(auto)]
+
 ghost use Rattle.std.specs.Prelude.{◌≡◌};
 ghost use Rattle.ready.specs.Ready.{ready_in};
 ghost use Rattle.settings.specs.Settings.{numbers_set};

@@ -1,5 +1,7 @@
 // An evening of television, flow by flow: the example of docs/flows.md, run and printed beside what it should be. Who should be elected was computed by another program,
 // with zlib's CRC-32 and whole numbers.
+#![tactic(auto)]
+
 ghost use Rattle.segment_state.specs.State.{ValidSegment};
 
 use answers::Answer;

@@ -1,1 +1,3 @@
 // The elections of a segment, and what it is for two answers to name the same forwarder. Definitions only.
+
+#![tactic(auto)]

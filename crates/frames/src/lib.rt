@@ -1,5 +1,7 @@
 // Cutting a run of octets into records: the mark D5 4F, a kind octet, a length octet, and that many octets (document 01, "The bench
 // program"). Only the frame is judged here; which kinds and lengths are good is for those who read the payload.
+#![tactic(auto)]
+
 ghost use Rattle.std.specs.Prelude.{◌≡◌, ◌+◌, ◌*◌, ◌<◌, length};
 ghost use Rattle.frames.specs.Frames.{frame_at};
 
@@ -16,7 +18,7 @@ const MARK: u16 = 0x4FD5;
 pub const HEAD_LENGTH: usize = 4;
 
 // What stands at a position of a run of octets.
-#[derive(Drop)]
+#[derive(Clone, Copy)]
 pub enum Frame {
     // No octet at all.
     Nothing,

@@ -1,13 +1,15 @@
 // The DF election finite state machine (RFC 8584, section 2.1): when a router that has come up waits, when it calculates, and when it has elected.
 // A machine goes in and comes back by value. Whatever list of events and clock readings follows its making, `make` promises what becomes of it.
 // `fsm_numbers` takes events by their numbers.
+#![tactic(auto)]
+
 ghost use Rattle.std.specs.Prelude.{◌≡◌, ◌+◌, ◌%◌, ◌^◌, List};
 ghost use Rattle.fsm.specs.Machine.{state_number, event_number, next_state, starts, waited_of, due, made_of, drive_of, tick_of};
 ghost use Rattle.fsm.specs.Runs.{Item, run, Claims};
 
 use refusals::WAIT_OUT_OF_RANGE;
 
-#[derive(Drop)]
+#[derive(Clone, Copy)]
 pub enum State {
     Init,
     DfWait,
@@ -15,7 +17,7 @@ pub enum State {
     DfDone,
 }
 
-#[derive(Drop)]
+#[derive(Clone, Copy)]
 pub enum Event {
     EsUp,
     EsDown,
@@ -27,7 +29,7 @@ pub enum Event {
 }
 
 // The wait is in seconds; `since` is the clock reading of the ES_UP that left INIT.
-#[derive(Drop)]
+#[derive(Clone, Copy)]
 pub struct Machine {
     pub state: State,
     pub wait: u32,
@@ -35,7 +37,7 @@ pub struct Machine {
 }
 
 // The answer to making a machine, or to an event that is handed in as a number: 0 or a refusal, and the machine.
-#[derive(Drop)]
+#[derive(Clone, Copy)]
 pub struct Answer {
     pub number: u8,
     pub machine: Machine,

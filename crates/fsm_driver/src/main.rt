@@ -2,13 +2,15 @@
 // the event with the number as its clock reading; kind 1 hands in the clock reading alone; any other kind makes a machine with the number as its wait, and
 // the items that follow are its own. The first machine is the one that a wait of 0 is refused with. After each item ten octets are written: the answer's
 // number, the state's number, the wait and the start, four octets each. The run ends with the input; a cut item is left out.
+#![tactic(auto)]
+
 ghost use Rattle.std.specs.Prelude.{◌≡◌};
 ghost use Rattle.fsm_driver.specs.Items.{item_answer, item_octets};
 
 use fsm::{Answer, Machine};
 
 // The machine after an item, and whether another item may follow.
-#[derive(Drop)]
+#[derive(Clone, Copy)]
 struct ItemTaken {
     machine: Machine,
     more: bool,

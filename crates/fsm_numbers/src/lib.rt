@@ -1,4 +1,6 @@
 // The machine of `fsm` driven by events that are handed in as numbers.
+#![tactic(auto)]
+
 ghost use Rattle.std.specs.Prelude.{◌≡◌};
 ghost use Rattle.fsm_numbers.specs.Numbers.{event_of, driven_of};
 
@@ -6,7 +8,7 @@ use fsm::{Answer, Event, Machine};
 use refusals::EVENT_UNKNOWN;
 
 // What a number handed in for an event is: that event, or nothing.
-#[derive(Drop)]
+#[derive(Clone, Copy)]
 enum Numbered {
     Is(Event),
     Nothing,

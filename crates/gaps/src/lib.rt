@@ -1,5 +1,7 @@
 // One row more, and one row less, among rows of words at the start of a lent slice, by a gap that is opened or closed. The rows may be any, such as those of
 // attributes beside the keys; the width k and the capacity are the caller's.
+#![tactic(auto)]
+
 ghost use Rattle.std.specs.Prelude.{◌≡◌, ◌+◌, ◌*◌, ◌≤◌, ◌<◌, length};
 ghost use Rattle.rows.specs.Rows.{opened, inserted, closed, removed};
 

@@ -1,5 +1,7 @@
 // The rules of a record, for the bench program and for dumps of its records (document 01, "The bench program"; document 02, M-111): what a record of a run is, judged by its
 // place, its kind and its payload, and not carried out.
+#![tactic(auto)]
+
 ghost use Rattle.std.specs.Prelude.{◌≡◌, true, false};
 ghost use Rattle.judgement.specs.Judgement.{announcement_of, withdrawal_of, query_of, first_of, later_of, judged_of};
 
@@ -14,7 +16,7 @@ const IPV6_BITS: u8 = 128;
 
 // What a record is: the text of an identifier (a plate, in document 01), an announcement, a withdrawal, a query, or bad. A withdrawal and a query say whether their addresses
 // are IPv6.
-#[derive(Drop)]
+#[derive(Clone, Copy)]
 pub enum Judged {
     Text,
     Announcement,

@@ -2,6 +2,8 @@
 // identifier.
 // Unused places are zero. Here are the definitions, their laws, and the functions that read a part; `owner` has the identifier's words, `entries` the lookup and
 // the stores. What lies where is known in these three alone; the calls are in `table`.
+#![tactic(auto)]
+
 ghost use Rattle.std.specs.Prelude.{◌≡◌, ◌/◌, ◌%◌, ◌^◌, ◌<◌, length, get_or};
 ghost use Rattle.address.specs.Address.{family_of, address_words, address_number};
 ghost use Rattle.layout.specs.Table.{no_entry};

@@ -1,5 +1,7 @@
 // Runs document 01's values at the limits ("Values to hold against the definitions", those without a star) and prints each beside what it should be:
 // the reserved tags, and the 65th address of a segment.
+#![tactic(auto)]
+
 ghost use Rattle.segment_state.specs.State.{ValidSegment};
 
 use example_tables::{Table, announce, empty_table, refusal, with, without};

@@ -1,6 +1,8 @@
 // The pieces of an answer line (document 01, "The bench program"), put into a lent buffer one after the other: an octet, a run of octets; numbers and addresses
 // are in `numerals`. One rule for all: a piece that fits from the position on is stored there, and the answer is the position after it; of a piece that does not
 // fit nothing is stored, and the answer is the position itself.
+#![tactic(auto)]
+
 ghost use Rattle.std.specs.Prelude.{[], ◌∷◌};
 ghost use Rattle.lines.specs.Lines.{Put};
 

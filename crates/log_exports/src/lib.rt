@@ -1,11 +1,13 @@
 // One call to a function, as in `exports`: the call that writes a segment's table out as records. It is an archive of its own, as it links what the bench program is made of.
+#![tactic(auto)]
+
 ghost use Rattle.std.specs.Prelude.{◌≡◌, length};
 ghost use Rattle.segment_state.specs.State.{segment_in, ValidSegment};
 ghost use Rattle.log_octets.specs.Log.{log_number, log_length, log_written};
 
 // The writer's answer, laid out as C lays it out.
 #[repr(C)]
-#[derive(Drop)]
+#[derive(Clone, Copy)]
 pub struct Logged {
     pub number: u8,
     pub length: usize,

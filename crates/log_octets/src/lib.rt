@@ -1,4 +1,6 @@
 // A table written out as a run of bench records into a lent buffer (document 02, M-112): the text of the identifier, then an announcement for each entry.
+#![tactic(auto)]
+
 ghost use Rattle.std.specs.Prelude.{◌≡◌, false, ◌+◌, ◌≤◌, length};
 ghost use Rattle.octets.specs.Octets.{stored};
 ghost use Rattle.esi.specs.Reserved.{reserved};
@@ -23,7 +25,7 @@ const TEXT_LENGTH: usize = 29;
 const TEXT_RECORD: usize = 33;
 
 // What the writer answers: 0 and how many octets the run has, or a refusal number and 0.
-#[derive(Drop)]
+#[derive(Clone, Copy)]
 pub struct Logged {
     pub number: u8,
     pub length: usize,

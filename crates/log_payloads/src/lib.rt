@@ -1,4 +1,6 @@
 // The payload of an announcement of an entry (document 02, M-112): its route, with a distinguisher of zeros, and one community.
+#![tactic(auto)]
+
 ghost use Rattle.std.specs.Prelude.{◌≡◌, false, ◌≤◌, ◌<◌, length, get_or, take};
 ghost use Rattle.address.specs.Address.{address_row};
 ghost use Rattle.esi.specs.Reserved.{reserved};
@@ -16,7 +18,7 @@ const COMMUNITY_LENGTH: usize = 8;
 const MOST_PAYLOAD: usize = 45;
 
 // The payload of an announcement: its octets, and how many of them count.
-#[derive(Drop)]
+#[derive(Clone, Copy)]
 pub struct Payload {
     pub octets: [u8; MOST_PAYLOAD],
     pub length: usize,

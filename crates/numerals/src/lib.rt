@@ -1,5 +1,7 @@
 // Numbers and addresses as pieces of an answer line (document 01, "The bench program"), put into a lent buffer by the rule of `lines`: a number in decimal, an
 // address of either family.
+#![tactic(auto)]
+
 ghost use Rattle.std.specs.Prelude.{◌≡◌, [], ◌∷◌, ◌≤◌, length, drop};
 ghost use Rattle.lines.specs.Lines.{decimal, dotted, hex, Put};
 

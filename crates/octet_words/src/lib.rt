@@ -1,5 +1,7 @@
 // Octets of a run as one word, as the machine loads them at once: the first octet low. A field of a route has its first octet high, and is the same word turned round.
 // Every function asks for the octets that it reads; callers check before they call.
+#![tactic(auto)]
+
 ghost use Rattle.std.specs.Prelude.{◌≡◌, ◌+◌, ◌≤◌, length, take, drop};
 ghost use Rattle.octets.specs.Octets.{number_of, word_at};
 ghost use Rattle.octet_words.specs.Words.{low_first, low_octets};

@@ -1,4 +1,6 @@
 // Octets: numbers from and to them, high octet first; storing a run into a lent buffer.
+#![tactic(auto)]
+
 ghost use Rattle.std.specs.Prelude.{◌≡◌, [], ◌∷◌, length};
 ghost use Rattle.octets.specs.Octets.{number_of, octets_of, all_are, hex_digit, stored};
 

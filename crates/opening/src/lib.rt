@@ -1,5 +1,7 @@
 // The turn of the first bench record (document 01, "The bench program"), a text that names the segment: it is read, its line is put into a lent buffer by
 // `answer_lines`, and a fresh table is laid into the lent words.
+#![tactic(auto)]
+
 ghost use Rattle.std.specs.Prelude.{◌≡◌, ◌+◌, ◌≤◌, length};
 ghost use Rattle.layout.specs.Words.{table_in, Valid};
 ghost use Rattle.turns.specs.Turns.{text_turn};

@@ -1,4 +1,6 @@
 // The identifier that a table belongs to, in three of the table's words, four octets in each of the first two: written, read, and compared with another.
+#![tactic(auto)]
+
 ghost use Rattle.std.specs.Prelude.{◌≡◌, ◌++◌, length, take, replicate};
 ghost use Rattle.octets.specs.Octets.{same_numbers};
 ghost use Rattle.layout.specs.Words.{identifier_words, table_in, Octets, Valid};

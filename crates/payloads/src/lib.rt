@@ -1,4 +1,6 @@
 // The addresses in the payload of a bench record: one for a withdrawal, and a run of them for a query, put as the rows of a ready list.
+#![tactic(auto)]
+
 ghost use Rattle.std.specs.Prelude.{◌≡◌, [], ◌∷◌, ◌+◌, ◌*◌, ◌/◌, ◌≤◌, length, get_or, take, drop};
 ghost use Rattle.octets.specs.Octets.{number_of};
 ghost use Rattle.rows.specs.Rows.{flat};

@@ -1,4 +1,6 @@
 // The runs of a set of places (`places`): places of it that stand one next to the other. The n-th place is found run by run.
+#![tactic(auto)]
+
 ghost use Rattle.std.specs.Prelude.{◌≡◌, ◌+◌, ◌-◌, ◌<◌, get_or, drop};
 ghost use Rattle.std.specs.Int.Bits.{bit_or};
 ghost use Rattle.places.specs.Places.{places, lowest_run};

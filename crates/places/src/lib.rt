@@ -1,5 +1,7 @@
 // Sets of places 0 to 63 as the bits of a u64: counted by their ones, and walked from the lowest place up by trailing zeros; `place_runs` walks them run by run.
 // The answer 64 stands for "no place".
+#![tactic(auto)]
+
 ghost use Rattle.std.specs.Prelude.{◌≡◌, ◌≤◌, ◌<◌, true, length, get_or, drop, replicate};
 ghost use Rattle.std.specs.Int.Count.{ones};
 ghost use Rattle.places.specs.Places.{places, set_of, with_place, without_place};

@@ -1,5 +1,7 @@
 // Runs the worked example of RFC 9785, section 4.1, for tag 1, and prints each value beside what it should be: PE1, PE2 and PE3 are the routers 1, 2
 // and 3. Beside it, steps of a bandwidth that stop at an end or are too long.
+#![tactic(auto)]
+
 ghost use Rattle.segment_state.specs.State.{ValidSegment};
 
 use example_tables::{HIGHEST, LOWEST, Table, elected, empty_table, second_segment, with, without};

@@ -1,5 +1,7 @@
 // The turn of a bench query (document 01, "The bench program"): the tag and the ready addresses are read, and the line of the election's answer is put into a lent
 // buffer by `query_lines`.
+#![tactic(auto)]
+
 ghost use Rattle.std.specs.Prelude.{◌+◌, ◌≤◌, length};
 ghost use Rattle.layout.specs.Words.{table_in, Valid};
 ghost use Rattle.turns.specs.Turns.{query_turn};

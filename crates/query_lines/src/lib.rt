@@ -1,4 +1,6 @@
 // The answer line of a bench query (document 01, "The bench program"), put into a lent buffer: a refusal as every other line, else the elected address and N.
+#![tactic(auto)]
+
 ghost use Rattle.std.specs.Prelude.{◌+◌, ◌≤◌, length};
 ghost use Rattle.lines.specs.Lines.{Put};
 ghost use Rattle.answer_lines.specs.AnswerLines.{address_text, elected_line, query_line, Written};

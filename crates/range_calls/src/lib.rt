@@ -1,5 +1,7 @@
 // What users link for ranges of tags (document 02, M-109), through `segment`: the setting of the ranges upon the state of a segment. It promises that it is one more call of the
 // list.
+#![tactic(auto)]
+
 ghost use Rattle.settings.specs.Settings.{ranges_given};
 ghost use Rattle.segment_state.specs.State.{segment_in, ValidSegment, SetTold};
 ghost use Rattle.demand3.specs.Calls as calls;

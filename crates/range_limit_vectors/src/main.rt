@@ -1,4 +1,6 @@
 // Ranges of tags that may be set and such that may not, and where they act, with what docs/ranges.md adds to RFC 9785's examples, run and printed beside what it should be.
+#![tactic(auto)]
+
 ghost use Rattle.segment_state.specs.State.{ValidSegment};
 
 use example_tables::{LOWEST, Table, second_segment, with};

@@ -1,4 +1,6 @@
 // For the vectors of ranges of tags: ranges set, and the router that is elected for a tag, printed beside what they should be.
+#![tactic(auto)]
+
 ghost use Rattle.segment_state.specs.State.{ValidSegment};
 
 use vector_lines::show_number;

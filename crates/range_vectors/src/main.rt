@@ -1,5 +1,7 @@
 // Two halves of a segment's tags: the examples of RFC 9785, sections 4.2 and 4.3, with ranges of tags that name another algorithm, run and printed beside what they should be.
 // PE1, PE2 and PE3 are the routers 1, 2 and 3.
+#![tactic(auto)]
+
 ghost use Rattle.segment_state.specs.State.{ValidSegment};
 
 use example_tables::{HIGHEST, Table, empty_table, second_segment, with, without};

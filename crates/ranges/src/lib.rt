@@ -1,5 +1,7 @@
 // Ranges of Ethernet Tags that name another algorithm, in words that a caller lends: how many there are, and then 16 places of three words, the first tag, the last tag, and 2
 // (Highest-Preference) or 3 (Lowest-Preference). Unused places are zero.
+#![tactic(auto)]
+
 ghost use Rattle.std.specs.Prelude.{◌≡◌, true, not, ◌&&◌, [], ◌+◌, ◌*◌, ◌/◌, ◌≤◌, ◌<◌, eqb, length, get_or, drop};
 ghost use Rattle.lists.specs.Lists.{all};
 ghost use Rattle.ranges.specs.Ranges.{range_right, overlap, disjoint, ranges_of, may_be_ranges, ranges_set, ranges_words, ranges_in, ValidRanges, RangesTold};

@@ -1,4 +1,6 @@
 // The candidates of an election as a set of places of the table: all routes or, with AC-DF in use, those whose address is on the ready list.
+#![tactic(auto)]
+
 ghost use Rattle.std.specs.Prelude.{◌≡◌, map};
 ghost use Rattle.layout.specs.Words.{table_in, Valid};
 ghost use Rattle.places.specs.Places.{set_of};

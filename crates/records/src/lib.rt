@@ -1,5 +1,7 @@
 // One whole record of the bench program in any state of the run (document 01, "The bench program"): it is judged by `judgement`, and its turn is taken by `opening`,
 // `turns` and `queries`.
+#![tactic(auto)]
+
 ghost use Rattle.std.specs.Prelude.{◌≡◌, true, false, ◌+◌, ◌≤◌, length};
 ghost use Rattle.layout.specs.Words.{table_in, Valid};
 ghost use Rattle.turns.specs.Turns.{state_in};

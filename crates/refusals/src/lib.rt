@@ -1,5 +1,6 @@
 // The refusal numbers (document 01, "Refusal numbers", and the requests of document 02). 0 is no refusal. 16, a bad record, the bench
 // program writes as a line (`bad_line` in `answer_lines`).
+#![tactic(auto)]
 
 // A route's length.
 pub const WRONG_LENGTH: u8 = 1;

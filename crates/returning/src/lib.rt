@@ -1,4 +1,6 @@
 // The preference and the DP bit that a router advertises when it comes back from repair (RFC 9785, section 4.3), also where ranges of tags are set.
+#![tactic(auto)]
+
 ghost use Rattle.std.specs.Prelude.{◌≡◌, true, false, cond, ◌&&◌, ◌-◌, ◌<◌, ◌≤◌, ◌^◌, length, eqb};
 ghost use Rattle.address.specs.Address.{address_row};
 ghost use Rattle.layout.specs.Words.{table_in, Valid};
@@ -13,7 +15,7 @@ use refusals::{ADDRESS_ZERO, ALGORITHM_NOT_USABLE};
 use rows::Found;
 
 // The answer: 0 and the pair that is sent, or a refusal number and zeros.
-#[derive(Drop)]
+#[derive(Clone, Copy)]
 pub struct Sent {
     pub number: u8,
     pub preference: u16,

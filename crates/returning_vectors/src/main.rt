@@ -1,5 +1,7 @@
 // Runs a router that returns and prints each value beside what it should be: document 01's value that has no star, and the worked example of RFC 9785,
 // section 4.3, for tag 1, where PE1, PE2 and PE3 are the routers 1, 2 and 3.
+#![tactic(auto)]
+
 use example_tables::{HIGHEST, LOWEST, elected, empty_table, second_segment, with, without};
 use vector_lines::{show_number, show_pair};
 

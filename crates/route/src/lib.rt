@@ -1,4 +1,6 @@
 // The Ethernet Segment route of RFC 7432: checking one. Reading and writing its fields is `route_fields`.
+#![tactic(auto)]
+
 ghost use Rattle.std.specs.Prelude.{◌≡◌, ◌≤◌, true, ◌||◌, length, get_or, eqb};
 ghost use Rattle.route.specs.Route.{
   total_of,
@@ -20,7 +22,7 @@ use address::{Address, Family};
 use refusals::{ADDRESS_ZERO, ESI_RESERVED, WRONG_ADDRESS_LENGTH, WRONG_LENGTH, WRONG_TYPE};
 
 // The answer of the check: the originator's address, or a refusal number and the offset that it speaks of.
-#[derive(Drop)]
+#[derive(Clone, Copy)]
 pub enum Checked {
     Originator(Address),
     Refused(u8, usize),

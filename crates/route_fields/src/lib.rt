@@ -1,4 +1,6 @@
 // The fields of an Ethernet Segment route (RFC 7432): reading them, and writing a route of them.
+#![tactic(auto)]
+
 ghost use Rattle.std.specs.Prelude.{◌≡◌, length, take};
 ghost use Rattle.address.specs.Address.{address_row, family_of, octets_of_address};
 ghost use Rattle.route.specs.Route.{total_of, Fault};
@@ -9,7 +11,7 @@ use refusals::{ADDRESS_ZERO, BUFFER_SHORT, ESI_RESERVED, WRONG_LENGTH};
 use route::Checked;
 
 // The answer of the reader: 0, offset 0 and the fields, or a refusal number, its offset and zeros. An IPv4 address is in the first four octets, then zeros.
-#[derive(Drop)]
+#[derive(Clone, Copy)]
 pub struct RouteRead {
     pub number: u8,
     pub offset: usize,

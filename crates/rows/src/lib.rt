@@ -1,12 +1,14 @@
 // Rows of words: n rows of k words each at the start of a lent slice, which rise, high word first, each row its own key.
 // The width k and the capacity are the caller's. Every function asks for the bounds that it needs; callers check before they call.
 // Every table lies in such rows: there is one search for a row here, one for the place where the rows that start with two words do, and one insertion and one removal in `gaps`.
+#![tactic(auto)]
+
 ghost use Rattle.std.specs.Prelude.{◌≡◌, true, false, map, ◌+◌, ◌-◌, ◌*◌, ◌/◌, ◌%◌, ◌^◌, ◌≤◌, ◌<◌, length, get_or, take, drop};
 ghost use Rattle.keyed.specs.Keyed.{Rising, rank};
 ghost use Rattle.rows.specs.Rows.{rows_in, row_key, head_key, key_order, found_in, middle, Within, looked, looks_between, first_look, looks_for};
 
 // How one row stands to another.
-#[derive(Drop)]
+#[derive(Clone, Copy)]
 pub enum Order {
     Less,
     Equal,
@@ -14,14 +16,14 @@ pub enum Order {
 }
 
 // The place of a row, or the place at which it would stand.
-#[derive(Drop)]
+#[derive(Clone, Copy)]
 pub enum Found {
     At(usize),
     Missing(usize),
 }
 
 // The answer of a search: the row's place, and how many rows were compared with it.
-#[derive(Drop)]
+#[derive(Clone, Copy)]
 pub struct Lookup {
     pub found: Found,
     pub looks: u32,

@@ -1,5 +1,7 @@
 // How a run of the bench program starts and ends (document 01, "The bench program"): the state before the first record, whether nothing more is looked at, and
 // what is printed where the input ends.
+#![tactic(auto)]
+
 ghost use Rattle.std.specs.Prelude.{◌≡◌, true, ℕ, List};
 ghost use Rattle.layout.specs.Table.{Table};
 ghost use Rattle.layout.specs.Words.{Valid};

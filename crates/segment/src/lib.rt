@@ -1,6 +1,8 @@
 // What users link: the calls of one segment, those for multicast flows (`flow_calls`), for ranges of tags (`range_calls`) and for the second in line (`backup_calls`, and `candidate_list` over a list of candidates), and those of the table of its Ethernet A-D routes
 // (`circuit_calls`). The state of a segment is 490 words, its route table and what the operator has set, which the fresh call makes and the others are lent.
 // The fresh call promises demand 3 of every list of calls; each call promises that it is one more call of the list.
+#![tactic(auto)]
+
 ghost use Rattle.std.specs.Prelude.{◌≡◌, ◌<◌, List, [], true, false};
 ghost use Rattle.std.specs.Int.Count.{ones};
 ghost use Rattle.address.specs.Address.{address_row};

@@ -2,6 +2,8 @@
 // `segment`.
 
 // How many words a state has.
+#![tactic(auto)]
+
 pub const WORDS: usize = 490;
 
 // Where the settings start: so many words are the table's.

@@ -1,5 +1,7 @@
 // What the operator sets upon a segment, in words that a caller lends: the algorithm numbers of the two election kinds by flow, for (S,G) and for (*,G), and the ranges of
 // tags that name another algorithm; zeros where none are set.
+#![tactic(auto)]
+
 ghost use Rattle.std.specs.Prelude.{◌≡◌, false};
 ghost use Rattle.tags.specs.Tags.{reserved_tag};
 ghost use Rattle.ranges.specs.Ranges.{algorithm_in};

@@ -1,5 +1,7 @@
 // The routes of one segment: a table of at most 64 entries in rising address order. It lies in words that the caller lends (`layout`).
 // A refused call leaves them as they were. The call that announces a route is in `announcing`.
+#![tactic(auto)]
+
 ghost use Rattle.address.specs.Address.{address_row};
 ghost use Rattle.layout.specs.Words.{table_in, Valid};
 ghost use Rattle.table.specs.Table.{fresh_table, withdrawn, Told};
@@ -20,7 +22,7 @@ pub struct Made {
 }
 
 // The answer to an announcement: 0 or a refusal number, and the offset that a route's refusal speaks of (else 0).
-#[derive(Drop)]
+#[derive(Clone, Copy)]
 pub struct Verdict {
     pub number: u8,
     pub offset: usize,

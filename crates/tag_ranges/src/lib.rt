@@ -1,5 +1,7 @@
 // Ranges of Ethernet Tags that name another algorithm, as they are kept in words that a caller lends: as they were handed in, and then in falling order, by which a tag is found
 // in a few comparisons.
+#![tactic(auto)]
+
 ghost use Rattle.std.specs.Prelude.{◌≡◌, false, not, eqb, length};
 ghost use Rattle.tags.specs.Tags.{reserved_tag};
 ghost use Rattle.ranges.specs.Ranges.{ranges_set, algorithm_in};

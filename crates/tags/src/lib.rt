@@ -1,4 +1,6 @@
 // Ethernet Tags: which of them are reserved.
+#![tactic(auto)]
+
 ghost use Rattle.std.specs.Prelude.{◌≡◌};
 ghost use Rattle.tags.specs.Tags.{reserved_tag};
 

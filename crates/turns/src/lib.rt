@@ -1,5 +1,7 @@
 // The turn of one bench record of each kind (document 01, "The bench program"): it is carried out upon a lent table, and its line is put into a lent
 // buffer by `answer_lines`. That of the first record is carried out in `opening`, that of a query in `queries`.
+#![tactic(auto)]
+
 ghost use Rattle.std.specs.Prelude.{◌≡◌, ℕ, ◌+◌, ◌≤◌, List, length, get_or};
 ghost use Rattle.layout.specs.Words.{table_in, Valid};
 ghost use Rattle.route.specs.Route.{total_of};
@@ -8,7 +10,7 @@ ghost use Rattle.turns.specs.Turns.{bad_turn, announce_turn, withdraw_turn};
 ghost use Rattle.turns.specs.Steps.{Stepped};
 
 // Where a run stands: no record was taken, records are carried out, nothing more is looked at.
-#[derive(Drop)]
+#[derive(Clone, Copy)]
 pub enum Phase {
     Start,
     Running,
@@ -16,7 +18,7 @@ pub enum Phase {
 }
 
 // The phase after a record, and the position after its line.
-#[derive(Drop)]
+#[derive(Clone, Copy)]
 pub struct Step {
     pub phase: Phase,
     pub at: usize,

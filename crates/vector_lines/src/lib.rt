@@ -1,5 +1,7 @@
 // Lines of the programs that run outside values: each prints a value beside what it should be, and whether it is right. A function that prints has
 // nothing to promise.
+#![tactic(auto)]
+
 use libc::STDOUT_FILENO;
 
 // The last part of a line.

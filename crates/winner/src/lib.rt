@@ -1,5 +1,7 @@
 // The winner of a set of places of the table under each algorithm. The set is walked along its bits: a set of low places place by
 // place, any other run by run.
+#![tactic(auto)]
+
 ghost use Rattle.std.specs.Prelude.{◌≡◌, ◌+◌, ◌-◌, ◌^◌, ◌≤◌, ◌<◌, length, get_or};
 ghost use Rattle.layout.specs.Table.{no_entry};
 ghost use Rattle.layout.specs.Words.{table_in, Valid};
@@ -22,7 +24,7 @@ const WORTH: u32 = 64;
 const LAST: u32 = 63;
 
 // A walk over places that is under way: the best place so far, its score, and the places left.
-#[derive(Drop)]
+#[derive(Clone, Copy)]
 struct Walk {
     at: usize,
     top: u32,
@@ -30,7 +32,7 @@ struct Walk {
 }
 
 // A walk by weight along a run that is under way: the best place so far, its score, and the next place.
-#[derive(Drop)]
+#[derive(Clone, Copy)]
 struct Run {
     at: usize,
     top: u32,

@@ -14,8 +14,13 @@ returns c =
     let known = c.before.before in
     let start = known.before in
     c.turned_round.ensures
-    ∙ ap (λ x. number_of (low_octets 4 x)) c.before.low-four.ensures
-    ∙ ap number_of (low_part start.args.s.now start.args.at 4 (every-place (λ (x : ℕ). x < 256) start.args.s.now 0 (λ j _. (known.shared-slice-known.given j).fits)) start.requires)
+    ∙ ap (λ x. number_of (low_octets 4 x)) c.low_four.ensures
+    ∙ ap number_of (low_part start.args.s.now start.args.at 4 (every-place (λ (x : ℕ). x < 256) start.args.s.now 0 (λ j _. (known.shared_slice_known-1.given j).fits)) start.requires)
 
-pub high-four-spec : {M : Type 1} → statement M
-high-four-spec = tie.close (tie.spec (λ c κs. search rules) (λ c κs. search rules) returns)
+pub high_four_spec : {M : Type 1} → statement M
+high_four_spec =
+    tie.close
+    (tie.spec
+    (λ c κs. search rules)
+    (λ c κs. search rules)
+    returns)

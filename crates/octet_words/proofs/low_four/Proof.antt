@@ -7,9 +7,18 @@ use Rattle.octet_words.proofs.low_four.Tie as tie
 returns : tie.Need-returns
 returns c =
     let start = c.before.before.before.before.before.before in
-    low-four-at start.args.at _ start.args.s.now start.requires c.u32-of.ensures
+    low-four-at start.args.at _ start.args.s.now start.requires c.u32_of.ensures
 
-pub low-four-spec : {M : Type 1} → statement M
-low-four-spec =
+pub low_four_spec : {M : Type 1} → statement M
+low_four_spec =
     tie.close
-    (tie.spec (λ c. search rules) (λ c. search rules) (λ c. search rules) (λ c. search rules) (λ c. search rules) (λ c. search rules) (λ c. search rules) (λ c κs. search rules) returns)
+    (tie.spec
+    (λ c. search rules)
+    (λ c. search rules)
+    (λ c. search rules)
+    (λ c. search rules)
+    (λ c. search rules)
+    (λ c. search rules)
+    (λ c. search rules)
+    (λ c κs. search rules)
+    returns)

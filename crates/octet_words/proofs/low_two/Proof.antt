@@ -7,9 +7,15 @@ use Rattle.octet_words.proofs.low_two.Tie as tie
 returns : tie.Need-returns
 returns c =
     let start = c.before.before.before.before in
-    low-two-at start.args.at _ start.args.s.now start.requires c.u16-of.ensures
+    low-two-at start.args.at _ start.args.s.now start.requires c.u16_of.ensures
 
-pub low-two-spec : {M : Type 1} → statement M
-low-two-spec =
+pub low_two_spec : {M : Type 1} → statement M
+low_two_spec =
     tie.close
-    (tie.spec (λ c. search rules) (λ c. search rules) (λ c. search rules) (λ c κs. search rules) (λ c. search rules) returns)
+    (tie.spec
+    (λ c. search rules)
+    (λ c. search rules)
+    (λ c. search rules)
+    (λ c κs. search rules)
+    (λ c. search rules)
+    returns)

@@ -8,11 +8,17 @@ use Rattle.octet_words.proofs.of_low.Tie as tie
 
 returns : tie.Need-returns
 returns c =
-    let x = c.before.args.x in
-    let e = c.of-u32.ensures ∙ four-octets x in
+    let x = c.args.x in
+    let e = c.of_u32-high.ensures ∙ four-octets x in
     rw e (sym (low-four-octets x))
 
-pub of-low-spec : {M : Type 1} → statement M
-of-low-spec =
+pub of_low_spec : {M : Type 1} → statement M
+of_low_spec =
     tie.close
-    (tie.spec (λ c κs. search rules) (λ c. search rules) (λ c. search rules) (λ c. search rules) (λ c. search rules) returns)
+    (tie.spec
+    (λ c κs. search rules)
+    (λ c. search rules)
+    (λ c. search rules)
+    (λ c. search rules)
+    (λ c. search rules)
+    returns)

@@ -7,11 +7,18 @@ use Rattle.octet_words.proofs.turned_round.Tie as tie
 
 returns : tie.Need-returns
 returns c =
-    let x = c.before.before.args.x in
-    let e = c.before.of_low.ensures ∙ low-four-octets x in
-    c.u32-of.ensures ∙ rw (e, low-four-octets x)
+    let x = c.args.x in
+    let e = c.of_low-low.ensures ∙ low-four-octets x in
+    c.u32_of.ensures ∙ rw (e, low-four-octets x)
 
-pub turned-round-spec : {M : Type 1} → statement M
-turned-round-spec =
+pub turned_round_spec : {M : Type 1} → statement M
+turned_round_spec =
     tie.close
-    (tie.spec (λ c κs. search rules) (λ c. search rules) (λ c. search rules) (λ c. search rules) (λ c. search rules) (λ c κs. search rules) returns)
+    (tie.spec
+    (λ c κs. search rules)
+    (λ c. search rules)
+    (λ c. search rules)
+    (λ c. search rules)
+    (λ c. search rules)
+    (λ c κs. search rules)
+    returns)

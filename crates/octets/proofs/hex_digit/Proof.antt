@@ -28,23 +28,23 @@ past-le (suc n) x p = omega (arith, past-le n x p.0, p.1)
 last : (n : ℕ) → Past 15 (n % 16) → n % 16 ≡ 15
 last n p = omega (arith, past-le 15 (n % 16) p)
 
-pub hex-digit-spec : {M : Type 1} → statement M
-hex-digit-spec =
+pub hex_digit_spec : {M : Type 1} → statement M
+hex_digit_spec =
     tie.close
     (tie.spec
-    (λ c. arm c.before.args.n c.match.keys1)
-    (λ c. arm c.before.args.n c.match.keys2)
-    (λ c. arm c.before.args.n c.match.keys3)
-    (λ c. arm c.before.args.n c.match.keys4)
-    (λ c. arm c.before.args.n c.match.keys5)
-    (λ c. arm c.before.args.n c.match.keys6)
-    (λ c. arm c.before.args.n c.match.keys7)
-    (λ c. arm c.before.args.n c.match.keys8)
-    (λ c. arm c.before.args.n c.match.keys9)
-    (λ c. arm c.before.args.n c.match.keys10)
-    (λ c. arm c.before.args.n c.match.keys11)
-    (λ c. arm c.before.args.n c.match.keys12)
-    (λ c. arm c.before.args.n c.match.keys13)
-    (λ c. arm c.before.args.n c.match.keys14)
-    (λ c. arm c.before.args.n c.match.keys15)
-    (λ c. arm c.before.args.n (last _ c.match.rest)))
+    (λ c. arm c.args.n c.in-0.is)
+    (λ c. arm c.args.n c.in-1.is)
+    (λ c. arm c.args.n c.in-2.is)
+    (λ c. arm c.args.n c.in-3.is)
+    (λ c. arm c.args.n c.in-4.is)
+    (λ c. arm c.args.n c.in-5.is)
+    (λ c. arm c.args.n c.in-6.is)
+    (λ c. arm c.args.n c.in-7.is)
+    (λ c. arm c.args.n c.in-8.is)
+    (λ c. arm c.args.n c.in-9.is)
+    (λ c. arm c.args.n c.in-10.is)
+    (λ c. arm c.args.n c.in-11.is)
+    (λ c. arm c.args.n c.in-12.is)
+    (λ c. arm c.args.n c.in-13.is)
+    (λ c. arm c.args.n c.in-14.is)
+    (λ c. arm c.args.n (last _ c.in_default.in_default-own.rest)))

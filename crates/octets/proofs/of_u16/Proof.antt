@@ -8,5 +8,10 @@ use Rattle.octets.proofs.of_u16.Tie as tie
 returns : tie.Need-returns
 returns c = sym (two-octets c.args.v)
 
-pub of-u16-spec : {M : Type 1} → statement M
-of-u16-spec = tie.close (tie.spec (λ c. search rules) (λ c. search rules) returns)
+pub of_u16_spec : {M : Type 1} → statement M
+of_u16_spec =
+    tie.close
+    (tie.spec
+    (λ c. search rules)
+    (λ c. search rules)
+    returns)

@@ -8,5 +8,12 @@ use Rattle.octets.proofs.of_u32.Tie as tie
 returns : tie.Need-returns
 returns c = sym (four-octets c.args.v)
 
-pub of-u32-spec : {M : Type 1} → statement M
-of-u32-spec = tie.close (tie.spec (λ c. search rules) (λ c. search rules) (λ c. search rules) (λ c. search rules) returns)
+pub of_u32_spec : {M : Type 1} → statement M
+of_u32_spec =
+    tie.close
+    (tie.spec
+    (λ c. search rules)
+    (λ c. search rules)
+    (λ c. search rules)
+    (λ c. search rules)
+    returns)

@@ -8,5 +8,10 @@ use Rattle.octets.proofs.u16_of.Tie as tie
 returns : tie.Need-returns
 returns c = sym (number-two c.args.a c.args.b)
 
-pub u16-of-spec : {M : Type 1} → statement M
-u16-of-spec = tie.close (tie.spec (λ c. search rules) (λ c. search rules) returns)
+pub u16_of_spec : {M : Type 1} → statement M
+u16_of_spec =
+    tie.close
+    (tie.spec
+    (λ c. search rules)
+    (λ c. search rules)
+    returns)

@@ -8,7 +8,14 @@ use Rattle.octets.proofs.u32_of.Tie as tie
 returns : tie.Need-returns
 returns c = sym (number-four c.args.a c.args.b c.args.c c.args.d)
 
-pub u32-of-spec : {M : Type 1} → statement M
-u32-of-spec =
+pub u32_of_spec : {M : Type 1} → statement M
+u32_of_spec =
     tie.close
-    (tie.spec (λ c. search rules) (λ c. search rules) (λ c. search rules) (λ c. search rules) (λ c. search rules) (λ c. search rules) returns)
+    (tie.spec
+    (λ c. search rules)
+    (λ c. search rules)
+    (λ c. search rules)
+    (λ c. search rules)
+    (λ c. search rules)
+    (λ c. search rules)
+    returns)

@@ -8,4 +8,7 @@ returns : tie.Need-returns
 returns c = (sym (length-places c.args.s c.ranges.s.fits), refl)
 
 pub count_spec : {M : Type 1} → statement M
-count_spec = tie.close (tie.spec returns)
+count_spec =
+    tie.close
+    (tie.spec
+    returns)

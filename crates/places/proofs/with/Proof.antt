@@ -13,5 +13,9 @@ returns c =
     let i = c.args.i in
     ap (bit_or s) (shift_one i c.requires) ∙ sym (with_place-in s i c.requires)
 
-pub with-spec : {M : Type 1} → statement M
-with-spec = tie.close (tie.spec (λ c. search rules) returns)
+pub with_spec : {M : Type 1} → statement M
+with_spec =
+    tie.close
+    (tie.spec
+    (λ c. search rules)
+    returns)

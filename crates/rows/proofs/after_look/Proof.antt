@@ -13,7 +13,7 @@ use Rattle.rows.proofs.after_look.Statement.{statement}
 use Rattle.rows.proofs.after_look.Tie as tie
 
 -- what is left, by the outcome
-module _ (entered : tie.After-shared-slice-known2) where
+module _ (entered : tie.After-shared_slice_known-2-1) where
   abbrev start : tie.Start
   start = entered.before.before
 
@@ -25,33 +25,33 @@ module _ (entered : tie.After-shared-slice-known2) where
 
   after : (o : Order) → start.args.order ≡ o
       → Left k start.args.n m start.args.s.now 0 start.args.at start.args.n (length (looks_for start.args.at m (map row_key (rows_in k start.args.n start.args.s.now)))) o
-  after o e = left-first k start.args.n m start.args.s.now start.pre.1 start.args.at start.pre.2 o (sym e ∙ start.pre.3)
+  after o e = left-first k start.args.n m start.args.s.now start.requires.1 start.args.at start.requires.2 o (sym e ∙ start.requires.3)
 
-search-between-requires : tie.Need-search-between-requires
+search-between-requires : tie.Need-search_between-requires
 search-between-requires c κs =
-    let e = c.before.before in
-    ((start e).requires.0, (start e).requires.1, (after e Less c.enum-told2.given.1).0, omega arith, (start e).requires.4)
+    let e = c.before in
+    ((start e).requires.0, (start e).requires.1, (after e Less c.in-Less.is).0, omega arith, (start e).requires.4)
 
-search-between-requires-2 : tie.Need-search-between-requires-2
+search-between-requires-2 : tie.Need-search_between-requires-in-Greater
 search-between-requires-2 c κs =
-    let e = c.before.before in
-    ((start e).requires.0, (start e).requires.1, (after e Greater c.enum-told3.given.1).0, omega arith, (start e).requires.4)
+    let e = c.before in
+    ((start e).requires.0, (start e).requires.1, (after e Greater c.in-Greater.is).0, omega arith, (start e).requires.4)
 
-returns : tie.Need-returns
-returns c = let told = after c.before.before Equal c.enum_told.given.1 in (told.0, sym told.1)
+returns : tie.Need-returns-in-Equal
+returns c = let told = after c.before Equal c.in-Equal.is in (told.0, sym told.1)
 
-returns-2 : tie.Need-returns-2
+returns-2 : tie.Need-returns-in-Less
 returns-2 c =
-    let told = after c.before.before.before Less c.before.enum-told2.given.1 in
-    (c.search-between.ensures.0, omega (arith, c.search-between.ensures.1, told.1))
+    let told = after c.before.before Less c.in-Less.is in
+    (c.search_between.ensures.0, omega (arith, c.search_between.ensures.1, told.1))
 
-returns-3 : tie.Need-returns-3
+returns-3 : tie.Need-returns-in-Greater
 returns-3 c =
-    let told = after c.before.before.before Greater c.before.enum-told3.given.1 in
-    (c.search-between2.ensures.0, omega (arith, c.search-between2.ensures.1, told.1))
+    let told = after c.before.before Greater c.in-Greater.is in
+    (c.search_between-in-Greater.ensures.0, omega (arith, c.search_between-in-Greater.ensures.1, told.1))
 
-pub after-look-spec : {M : Type 1} → statement M
-after-look-spec =
+pub after_look_spec : {M : Type 1} → statement M
+after_look_spec =
     tie.close
     (tie.spec
     (λ c. search rules)

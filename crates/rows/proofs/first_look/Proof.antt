@@ -5,13 +5,17 @@ use Rattle.rows.specs.Rows.{first_look}
 use Rattle.rows.proofs.first_look.Statement.{statement}
 use Rattle.rows.proofs.first_look.Tie as tie
 
-returns : tie.Need-returns
+returns : tie.Need-returns-then-first-n
 unfolding first_look
-returns c = rw (lt-ltb c.before.args.first c.before.args.n (omega arith))
+returns c = rw (lt-ltb c.args.first c.args.n (omega arith))
 
-returns-2 : tie.Need-returns-2
+returns-2 : tie.Need-returns
 unfolding first_look
-returns-2 c = rw (le-ltb c.before.args.first c.before.args.n (omega arith)) (omega arith)
+returns-2 c = rw (le-ltb c.args.first c.args.n (omega arith)) (omega arith)
 
-pub first-look-spec : {M : Type 1} → statement M
-first-look-spec = tie.close (tie.spec returns returns-2)
+pub first_look_spec : {M : Type 1} → statement M
+first_look_spec =
+    tie.close
+    (tie.spec
+    returns
+    returns-2)

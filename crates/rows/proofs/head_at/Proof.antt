@@ -8,8 +8,13 @@ use Rattle.rows.proofs.head_at.Tie as tie
 returns : tie.Need-returns
 returns c =
     let known = c.before.before in
-    let a = known.before.args in
-    c.turned.ensures ∙ ap turned c.before.pair-at.ensures ∙ turned_pair _ _ (known.shared-slice-known.given a.at).fits (known.shared-slice-known.given _).fits
+    let a = known.args in
+    c.turned.ensures ∙ ap turned c.pair_at-pair.ensures ∙ turned_pair _ _ (known.shared_slice_known-1.given a.at).fits (known.shared_slice_known-1.given _).fits
 
-pub head-at-spec : {M : Type 1} → statement M
-head-at-spec = tie.close (tie.spec (λ c κs. search rules) (λ c κs. search rules) returns)
+pub head_at_spec : {M : Type 1} → statement M
+head_at_spec =
+    tie.close
+    (tie.spec
+    (λ c κs. search rules)
+    (λ c κs. search rules)
+    returns)

@@ -15,16 +15,21 @@ seek-requires : tie.Need-seek-requires
 seek-requires c κs =
     let start = c.before.before.before in
     let a = start.args in
-    (start.requires.0, start.requires.1, within_all (length a.key.now) a.n (row_key a.key.now) a.s.now, λ h. (omega arith, look-lt _ a.n c.first-look.ensures h), omega arith, start.requires.2)
+    (start.requires.0, start.requires.1, within_all (length a.key.now) a.n (row_key a.key.now) a.s.now, λ h. (omega arith, look-lt _ a.n c.first_look-look.ensures h), omega arith, start.requires.2)
 
 returns : tie.Need-returns
 returns c =
     let called = c.before in
-    let a = called.before.before.before.args in
+    let a = called.args in
     let k = length a.key.now in
     let told = c.seek.ensures in
-    let looks = ap length (for-first (row_key a.key.now) (map row_key (rows_in k a.n a.s.now)) a.first _ a.n (keys_length k a.n a.s.now) called.first-look.ensures) in
+    let looks = ap length (for-first (row_key a.key.now) (map row_key (rows_in k a.n a.s.now)) a.first _ a.n (keys_length k a.n a.s.now) called.first_look-look.ensures) in
     (told.0, omega (arith, told.1, looks))
 
-pub search-spec : {M : Type 1} → statement M
-search-spec = tie.close (tie.spec (λ c κs. search rules) seek-requires returns)
+pub search_spec : {M : Type 1} → statement M
+search_spec =
+    tie.close
+    (tie.spec
+    (λ c κs. search rules)
+    seek-requires
+    returns)

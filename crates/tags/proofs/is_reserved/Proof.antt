@@ -4,13 +4,17 @@ use Rattle.tags.specs.Tags.{reserved_tag}
 use Rattle.tags.proofs.is_reserved.Statement.{statement}
 use Rattle.tags.proofs.is_reserved.Tie as tie
 
-returns : tie.Need-returns
+returns : tie.Need-returns-then-tag-eq0
 unfolding reserved_tag
-returns c = rw (eq-eqb _ 0 c.if1.true)
+returns c = rw (eq-eqb _ 0 c.if-tag-eq0.true)
 
-returns-2 : tie.Need-returns-2
+returns-2 : tie.Need-returns
 unfolding reserved_tag
-returns-2 c = rw (ne_eqb _ 0 c.if1.false)
+returns-2 c = rw (ne_eqb _ 0 c.if-tag-eq0.false)
 
-pub is-reserved-spec : {M : Type 1} → statement M
-is-reserved-spec = tie.close (tie.spec returns returns-2)
+pub is_reserved_spec : {M : Type 1} → statement M
+is_reserved_spec =
+    tie.close
+    (tie.spec
+    returns
+    returns-2)
