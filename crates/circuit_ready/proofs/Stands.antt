@@ -3,12 +3,12 @@ use Prim.Native.Nat.{ℕ, zero, suc, ◌+◌, ◌*◌, ◌^◌, ◌≤◌, ◌<�
 use native.Mathlib.Nat.{suc-mul, mul-le-mul_right}
 use native.Mathlib.Omega.{arith}
 use mathlib.Core.Path.{◌≡◌, refl, ap, ap₂, ◌∙◌, sym}
-use mathlib.Core.Bool.{Bool, true, false, not, ◌&&◌}
+use mathlib.Core.Bool.{Bool, true, false, ◌&&◌}
 use mathlib.Core.List.{List, [], ◌∷◌, ◌++◌}
 use lib.ListN.{length, get_or, take, drop, length-drop}
 use lib.Seq.{take-add, drop-drop, length-take-le}
 use lib.Dec.{ltb, eqb}
-use borrow.Author.Tests.{not-true, not-false, ltb-true, eqb-true, lt-ltb, le-ltb, eq-eqb, ne_eqb}
+use borrow.Author.Tests.{ltb-true, eqb-true, lt-ltb, le-ltb, eq-eqb, ne_eqb}
 use Rattle.lists.proofs.Bools.{true-false}
 use Rattle.lists.specs.Lists.{bit}
 use Rattle.lists.proofs.Numbers.{either, whether, ordered}
@@ -28,11 +28,11 @@ abbrev base : ℕ
 base = 4294967296
 
 -- TWO TESTS, the second made only where the first holds
-pub first-fails : (a b : Bool) {p : Bool} → p ≡ a → not p ≡ true → false ≡ (a && b)
-first-fails a b e h = rw (sym e ∙ not-true _ h)
+pub first-fails : (a b : Bool) {p : Bool} → p ≡ a → p ≡ false → false ≡ (a && b)
+first-fails a b e h = rw (sym e ∙ h)
 
-pub first_holds : (a b : Bool) {p q : Bool} → p ≡ a → not p ≡ false → q ≡ b → q ≡ (a && b)
-first_holds a b e h f = f ∙ rw (sym e ∙ not-false _ h)
+pub first_holds : (a b : Bool) {p q : Bool} → p ≡ a → p ≡ true → q ≡ b → q ≡ (a && b)
+first_holds a b e h f = f ∙ rw (sym e ∙ h)
 
 -- ONE COMPARISON says whether two keys are equal
 pub told-less : (m n : ℕ) → key_order m n ≡ Less → false ≡ eqb m n

@@ -1,8 +1,8 @@
 -- Laws of the calls over a table's words: what each return answers and leaves, and that the words stay a table's. Assumes nothing.
-use Prim.Native.Nat.{ℕ, ◌*◌, ◌<◌}
+use Prim.Native.Nat.{ℕ, ◌*◌}
 use native.Mathlib.Omega.{arith}
 use mathlib.Core.Path.{◌≡◌, refl, ap, ◌∙◌, sym, subst}
-use mathlib.Core.List.{List, [], ◌∷◌}
+use mathlib.Core.List.{List, []}
 use lib.ListN.{length, get_or, replicate}
 use Rattle.lists.specs.Lists.{Every}
 use Rattle.address.specs.Address.{IsAddress}
@@ -14,7 +14,7 @@ use Rattle.rows.proofs.Compared.{Words, words-part}
 use Rattle.rows.proofs.Places.{present-at}
 use Rattle.circuit_layout.specs.declared.Scope.{Scope}
 use Rattle.circuit_layout.specs.Circuits.{ad_row, CircuitsRight, circuit_words, circuits_in, ValidCircuits}
-use Rattle.circuit_layout.proofs.Words.{read_back, valid-of, route-row, length-row, length_at}
+use Rattle.circuit_layout.proofs.Words.{read_back, valid-of, route-row, length_at}
 use Rattle.circuits.specs.Changes.{AdChange, ad_announced, ad_withdrawn, AdTold}
 use Rattle.circuits.proofs.Calls.{answered, announced-kept, withdrawn-kept}
 

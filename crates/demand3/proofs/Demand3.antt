@@ -1,17 +1,14 @@
 -- Demand 3 holds of every identifier and every list of calls: the general theorem on journals, at a segment's calls and a capacity of 64, with its settings for the
 -- register. Assumes nothing.
 use Prim.Native.Nat.{ℕ}
-use native.Mathlib.Omega.{arith}
-use mathlib.Core.Path.{◌≡◌, refl, ap, ap₂, ◌∙◌, sym}
-use mathlib.Core.Bool.{Bool, true, false, cond}
-use mathlib.Core.List.{List, [], ◌∷◌, map, Permᴰ}
+use mathlib.Core.Path.{◌≡◌, refl, ap, ◌∙◌}
+use mathlib.Core.Bool.{Bool, cond}
+use mathlib.Core.List.{List, [], ◌∷◌, map}
 use mathlib.Core.Option.{Option}
 use lib.Dec.{eqb}
-use borrow.Author.Tests.{ne_eqb}
-use Rattle.lists.specs.Lists.{Every}
 use Rattle.lists.proofs.Bools.{no-choice}
 use Rattle.keyed.specs.Keyed.{arranged}
-use Rattle.keyed.specs.Journal.{after, answers, neither, heard, journal_step}
+use Rattle.keyed.specs.Journal.{after, heard}
 use Rattle.keyed.proofs.Journal.{Kept, number-arranged}
 use Rattle.keyed.proofs.Replay as replay
 use Rattle.layout.specs.Table.{Entry, Table, entry_key, table_of, WellFormed, owner_of}
@@ -25,9 +22,9 @@ use Rattle.election.specs.Queries.{Query, elect_with}
 use Rattle.returning.specs.declared.Sent.{Sent}
 use Rattle.returning.specs.Returning.{returning_with}
 use Rattle.demand3.specs.Calls.{Call, announce, withdraw, set_numbers, set_ranges, elect, returning, Reply, change_reply, elect_reply, returning_reply, number_in, reply_to, table_left, settings_left, leaves, Changes}
-use Rattle.demand3.specs.Journal.{Announcement, originator_key, again, entry_from, entries_from, call_number, call_effect, number_for, Journal, journal_of, step, journal_reply, settings_set, set_again, last_settings}
-use Rattle.demand3.specs.Demand3.{replies, segment_after, Follows, Demand3}
-use Rattle.demand3.proofs.Calls.{rules, state, announced-number, withdrawn-number, call-state, refused-leaves, table_kept, settings-kept}
+use Rattle.demand3.specs.Journal.{Announcement, originator_key, again, entry_from, entries_from, call_number, call_effect, number_for, journal_of, step, journal_reply, set_again}
+use Rattle.demand3.specs.Demand3.{segment_after, Follows, Demand3}
+use Rattle.demand3.proofs.Calls.{rules, announced-number, withdrawn-number, call-state, refused-leaves, table_kept, settings-kept}
 use Rattle.demand3.proofs.Settings.{again-accepted, again-restores, last_set}
 
 -- SINGLE CALLS. i is the journal's identifier

@@ -1,6 +1,6 @@
 -- What a setting answers and leaves of the words of a state, from what it answers and leaves of the settings. Assumes nothing.
 use Prim.Native.Nat.{ℕ, ◌-◌}
-use mathlib.Core.Path.{◌≡◌, ap, ◌∙◌}
+use mathlib.Core.Path.{ap, ◌∙◌}
 use mathlib.Core.List.{List, ◌++◌}
 use lib.ListN.{length, take, drop}
 use Rattle.settings.specs.Settings.{Settings, SettingsChange, numbers_set, ranges_given, settings_in, ValidSettings, SettingsTold}

@@ -6,8 +6,7 @@ use mathlib.Core.Path.{◌≡◌, refl, ap, ◌∙◌, sym}
 use mathlib.Core.Bool.{Bool, true, false}
 use mathlib.Core.List.{List, [], ◌∷◌, ◌++◌, append_assoc, append-nil}
 use lib.ListN.{length, get_or, take, drop, length-append, length-map, length-drop}
-use lib.Seq.{get_or-take, get_or-drop, length-take-le, take_at, take_all, take-suc}
-use Rattle.lists.specs.Lists.{Every}
+use lib.Seq.{get_or-take, get_or-drop, length-take-le, take_at, take-suc}
 use Rattle.lists.proofs.Lists.{get_d-map-in}
 use Rattle.octets.specs.Octets.{number_of, word_at}
 use Rattle.octets.proofs.Laws.{word-elements}

@@ -10,7 +10,7 @@ use Rattle.layout.proofs.Words.{length-valid}
 use Rattle.tag_ranges.proofs.Laws.{part-from, none-behind}
 use Rattle.settings.specs.Settings.{settings_in, ValidSettings}
 use Rattle.settings.proofs.Laws.{length-settings}
-use Rattle.segment_state.specs.State.{Segment, segment_in, ValidSegment}
+use Rattle.segment_state.specs.State.{segment_in, ValidSegment}
 
 -- A STATE PUT TOGETHER from the words of a table and those of settings
 module _ (x y : List ℕ) (v : Valid x) (w : ValidSettings y) where

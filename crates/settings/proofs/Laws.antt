@@ -17,7 +17,7 @@ use Rattle.ranges.proofs.Laws as ranges
 use Rattle.tag_ranges.specs.TagRanges.{tag_ranges_words, tag_ranges_in, ValidTagRanges, TagRangesTold}
 use Rattle.tag_ranges.proofs.Laws as tagged
 use Rattle.tag_ranges.proofs.Laws.{part-from, none-behind}
-use Rattle.settings.specs.Settings.{Settings, nothing_set, from_four_to_thirty, may_be_set, is_set, any_range, numbers_set, ranges_given, settings_words, settings_in, SettingsRight, ValidSettings, SettingsTold}
+use Rattle.settings.specs.Settings.{Settings, nothing_set, from_four_to_thirty, may_be_set, is_set, numbers_set, ranges_given, settings_words, settings_in, SettingsRight, ValidSettings, SettingsTold}
 
 -- WORDS
 pub settings-words-in : (s : Settings) (b : List ℕ) → RangesRight s.ranges → b ≡ settings_words s → settings_in b ≡ s

@@ -5,12 +5,12 @@ use mathlib.Core.Path.{◌≡◌, refl, ap, ◌∙◌, sym}
 use mathlib.Core.Bool.{Bool, true, false, not, ◌||◌}
 use mathlib.Core.List.{List, []}
 use mathlib.Core.Logic.{◌⊎◌, inl, inr, ⊎_elim}
-use lib.ListN.{length, set, length-set, replicate}
+use lib.ListN.{length, set, replicate}
 use lib.Dec.{ltb, eqb}
-use borrow.Author.Tests.{not-false, lt-ltb, le-ltb, ltb-true, ne_eqb, eqb-true}
+use borrow.Author.Tests.{not-false, lt-ltb, le-ltb, ne_eqb, eqb-true}
 use Rattle.lists.specs.Checks.{first_refusal}
 use Rattle.lists.specs.Lists.{Every}
-use Rattle.lists.proofs.Bools.{by-test, cond-by, eq-not, ne-not}
+use Rattle.lists.proofs.Bools.{cond-by, eq-not, ne-not}
 use Rattle.lists.proofs.Checks.{passed_on, refused-at, refused_none, passed, telling-own}
 use Rattle.octets.specs.Octets.{same_numbers}
 use Rattle.octets.proofs.Laws.{same-equal}
@@ -25,7 +25,7 @@ use Rattle.route.proofs.Laws.{route-fault, route-is-address, route-esi, route-ad
 use Rattle.community.specs.Community.{list_fits, election_in, read_list}
 use Rattle.community.specs.declared.ListRead.{ListRead}
 use Rattle.community.proofs.Laws.{list-refused, list-accepted, election-right}
-use Rattle.keyed.specs.Keyed.{spliced, without_at, Rising, has, rank, insert, remove}
+use Rattle.keyed.specs.Keyed.{spliced, without_at, Rising, has, insert, remove}
 use Rattle.keyed.proofs.Keyed as keyed
 use Rattle.keyed.proofs.Order.{length-insert-room, length-remove-le}
 use Rattle.rows.specs.Rows.{found_in}

@@ -12,7 +12,6 @@ use Rattle.lists.proofs.Bools.{cond-by}
 use Rattle.lists.proofs.Lists.{every_in}
 use Rattle.address.specs.Address.{address_key, IsAddress, is_zero}
 use Rattle.address.proofs.Laws.{key-injective, length-address}
-use Rattle.esi.specs.Reserved.{reserved}
 use Rattle.route.specs.Route.{route_address, route_number, Fault}
 use Rattle.community.specs.declared.Election.{Election}
 use Rattle.community.specs.Community.{election_in, read_list}

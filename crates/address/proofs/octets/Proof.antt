@@ -6,11 +6,11 @@ use Rattle.address.proofs.octets.Tie as tie
 
 returns : tie.Need-returns
 returns c =
-    let a = c.before.before.before.before.args in
-    spread _ _ _ _ a.w0 a.w1 a.w2 a.w3 c.before.before.before.of-u32.ensures c.before.before.of-u322.ensures c.before.of-u323.ensures c.of-u324.ensures
+    let a = c.args in
+    spread _ _ _ _ a.w0 a.w1 a.w2 a.w3 c.of_u32-a.ensures c.of_u32-b.ensures c.of_u32-c.ensures c.of_u32-d.ensures
 
-pub octets-spec : {M : Type 1} → statement M
-octets-spec =
+pub octets_spec : {M : Type 1} → statement M
+octets_spec =
     tie.close
     (tie.spec
     (λ c κs. search rules)

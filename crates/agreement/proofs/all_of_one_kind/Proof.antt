@@ -5,7 +5,6 @@ use mathlib.Core.Path.{◌≡◌, refl, ap, ap₂, ◌∙◌}
 use mathlib.Core.Bool.{Bool, ◌&&◌}
 use mathlib.Core.List.{List}
 use borrow.Author.Rules.{rules}
-use lib.Bits.{bit_or, bit_xor}
 use lib.Dec.{eqb}
 use lib.ListN.{length, get_or, drop}
 use Rattle.layout.specs.Table.{Entry, no_entry}
@@ -20,21 +19,21 @@ use Rattle.agreement.proofs.all_of_one_kind.Tie as tie
 abbrev kind : List Entry → ℕ
 kind es = kind_of (get_or es 0 no_entry)
 
-abbrev invariant-loop : tie.invariant-loop
+abbrev invariant-loop : tie.invariant-loop-i
 invariant-loop t n first differ₀ i₀ differ i =
     let es = (table_in t).entries in
     (i ≤ length es) × ((eqb (differ / 131072) 0 && all_of_kind (kind es) (drop i es)) ≡ all_of_kind (kind es) es)
 
-abbrev decreases-loop : tie.decreases-loop
+abbrev decreases-loop : tie.decreases-loop-i
 decreases-loop t n first differ₀ i₀ differ i = length (table_in t).entries - i
 
-loop-holds : tie.Need-loop-init invariant-loop decreases-loop
+loop-holds : tie.Need-loop-i-init invariant-loop decreases-loop
 loop-holds c = (omega arith, refl)
 
-attributes-at-requires-2 : tie.Need-attributes-at-requires-2 invariant-loop decreases-loop
+attributes-at-requires-2 : tie.Need-attributes_at-requires invariant-loop decreases-loop
 attributes-at-requires-2 c κs =
     let counted = c.before.before.before in
-    (counted.before.before.requires.0, omega (arith, counted.count.ensures))
+    (counted.requires.0, omega (arith, counted.count-n.ensures))
 
 -- whether an entry's word is of the kind of another's
 alike : (b : List ℕ) → Valid b → (i : ℕ) → i < length (table_in b).entries → 0 < length (table_in b).entries → (w v : ℕ)
@@ -43,7 +42,7 @@ alike : (b : List ℕ) → Valid b → (i : ℕ) → i < length (table_in b).ent
     → eqb (w / 131072) (v / 131072) ≡ eqb (kind_of (get_or (table_in b).entries i no_entry)) (kind (table_in b).entries)
 alike b h i l z w v p q = ap₂ eqb (ap (λ (n : ℕ). n / 131072) p ∙ attributes-kind b h i l) (ap (λ (n : ℕ). n / 131072) q ∙ attributes-kind b h 0 z)
 
-loop-again : tie.Need-loop-preserved invariant-loop decreases-loop
+loop-again : tie.Need-loop-i-preserved invariant-loop decreases-loop
 loop-again c =
     let turn = c.before.before in
     let first = turn.before in
@@ -52,13 +51,13 @@ loop-again c =
     let b = start.args.t.now in
     let es = (table_in b).entries in
     let k = kind es in
-    let i = turn.loop.i in
-    let d = turn.loop.differ in
-    let l : i < length es = omega (arith, counted.count.ensures) in (
+    let i = turn.loop-i.i in
+    let d = turn.loop-i.differ in
+    let l : i < length es = omega (arith, counted.count-n.ensures) in (
       omega arith,
-      ap (λ (x : Bool). x && all_of_kind k (drop (i + 1) es)) (kinds-differ d c.attributes-at2.result first.attributes-at.result
-          ∙ ap (λ (x : Bool). eqb (d / 131072) 0 && x) (alike b start.requires.0 i l start.requires.1 _ _ c.attributes-at2.ensures first.attributes-at.ensures))
-          ∙ kind-next k es i l (eqb (d / 131072) 0) turn.loop.invariant.1,
+      ap (λ (x : Bool). x && all_of_kind k (drop (i + 1) es)) (kinds-differ d c.attributes_at.result first.attributes_at-first.result
+          ∙ ap (λ (x : Bool). eqb (d / 131072) 0 && x) (alike b start.requires.0 i l start.requires.1 _ _ c.attributes_at.ensures first.attributes_at-first.ensures))
+          ∙ kind-next k es i l (eqb (d / 131072) 0) turn.loop-i.invariant.1,
     )
 
 returns : tie.Need-returns invariant-loop decreases-loop
@@ -67,11 +66,11 @@ returns c =
     let counted = turn.before.before in
     let start = counted.before.before in
     let es = (table_in start.args.t.now).entries in
-    ap (λ (x : ℕ). eqb x 0) c.kind-of.ensures
-    ∙ kind-end (kind es) es turn.loop.i (eqb (turn.loop.differ / 131072) 0) (omega (arith, counted.count.ensures, c.before.loop-test.false)) turn.loop.invariant.1
+    ap (λ (x : ℕ). eqb x 0) c.kind_of.ensures
+    ∙ kind-end (kind es) es turn.loop-i.i (eqb (turn.loop-i.differ / 131072) 0) (omega (arith, counted.count-n.ensures, c.loop-i-test.false)) turn.loop-i.invariant.1
 
-pub all-of-one-kind-spec : {M : Type 1} → statement M
-all-of-one-kind-spec =
+pub all_of_one_kind_spec : {M : Type 1} → statement M
+all_of_one_kind_spec =
     tie.close
     (tie.spec
     invariant-loop
@@ -81,7 +80,7 @@ all-of-one-kind-spec =
     loop-holds
     attributes-at-requires-2
     (λ c. omega arith)
-    (λ c. omega (arith, c.before.before.before.before.count.ensures))
+    (λ c. omega (arith, c.count-n.ensures))
     loop-again
     (λ c κs. search rules)
     returns)

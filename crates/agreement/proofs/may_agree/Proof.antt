@@ -6,14 +6,19 @@ use Rattle.agreement.proofs.Laws.{usable-low, usable-high}
 use Rattle.agreement.proofs.may_agree.Statement.{statement}
 use Rattle.agreement.proofs.may_agree.Tie as tie
 
-returns : tie.Need-returns
-returns c = let a = c.before.before.args in usable-low (settings_in a.settings.now) a.algorithm c.if1.true
+returns : tie.Need-returns-then-algorithm-lt4
+returns c = let a = c.args in usable-low (settings_in a.settings.now) a.algorithm c.if-algorithm-lt4.true
 
-returns-2 : tie.Need-returns-2
+returns-2 : tie.Need-returns
 returns-2 c =
     let high = c.before in
-    let a = high.before.before.args in
-    c.is_set.ensures ∙ usable-high (settings_in a.settings.now) a.algorithm high.if1.false
+    let a = high.args in
+    c.is_set.ensures ∙ usable-high (settings_in a.settings.now) a.algorithm high.if-algorithm-lt4.false
 
-pub may-agree-spec : {M : Type 1} → statement M
-may-agree-spec = tie.close (tie.spec returns (λ c κs. search rules) returns-2)
+pub may_agree_spec : {M : Type 1} → statement M
+may_agree_spec =
+    tie.close
+    (tie.spec
+    returns
+    (λ c κs. search rules)
+    returns-2)

@@ -4,7 +4,13 @@ use Rattle.answer_lines.proofs.put_bad.Statement.{statement}
 use Rattle.answer_lines.proofs.put_bad.Tie as tie
 
 returns : tie.Need-returns
-returns c = c.before.before.put-run.ensures
+returns c = c.put_run.ensures
 
-pub put-bad-spec : {M : Type 1} → statement M
-put-bad-spec = tie.close (tie.spec (λ c. search rules) (λ c κs. search rules) (λ c. search rules) returns)
+pub put_bad_spec : {M : Type 1} → statement M
+put_bad_spec =
+    tie.close
+    (tie.spec
+    (λ c. search rules)
+    (λ c κs. search rules)
+    (λ c. search rules)
+    returns)

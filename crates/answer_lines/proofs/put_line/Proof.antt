@@ -15,13 +15,13 @@ returns c =
     let p3 = p4.before.before.before.before in
     let p2 = p3.before.before.before.before in
     let p1 = p2.before.before.before.before in
-    let a = p1.before.before.before.args in
-    written_all (put_next p1.put-octet.ensures (put_next p2.put-octet2.ensures (put_next p3.put-decimal.ensures (λ _. p4.put-octet3.ensures))))
+    let a = p1.args in
+    written_all (put_next p1.put_octet-next.ensures (put_next p2.put_octet-next-2.ensures (put_next p3.put_decimal-next.ensures (λ _. p4.put_octet.ensures))))
     refl
-    (omega (arith, length-line a.letter a.number (omega arith), p1.before.before.before.requires))
+    (omega (arith, length-line a.letter a.number (omega arith), p1.requires))
 
-pub put-line-spec : {M : Type 1} → statement M
-put-line-spec =
+pub put_line_spec : {M : Type 1} → statement M
+put_line_spec =
     tie.close
     (tie.spec
     (λ c κs. search rules)

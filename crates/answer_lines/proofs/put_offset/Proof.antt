@@ -19,14 +19,14 @@ returns c =
     let p1 = p2.before.before.before.before in
     let s = p1.before.before.before in
     written_all
-    (put_next p1.put-octet.ensures
-    (put_next p2.put-octet2.ensures
-    (put_next p3.put-decimal.ensures (put_next p4.put-octet3.ensures (put_next p5.put-decimal2.ensures (λ _. p6.put-octet4.ensures))))))
+    (put_next p1.put_octet-end.ensures
+    (put_next p2.put_octet-end-2.ensures
+    (put_next p3.put_decimal-end.ensures (put_next p4.put_octet-end-3.ensures (put_next p5.put_decimal-end-2.ensures (λ _. p6.put_octet.ensures))))))
     refl
     (omega (arith, length-offset s.args.letter s.args.number s.args.offset (omega arith) (omega arith), s.requires))
 
-pub put-offset-spec : {M : Type 1} → statement M
-put-offset-spec =
+pub put_offset_spec : {M : Type 1} → statement M
+put_offset_spec =
     tie.close
     (tie.spec
     (λ c κs. search rules)

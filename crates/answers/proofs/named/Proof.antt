@@ -15,7 +15,12 @@ returns c =
     let start = known.before.before in
     let a = start.args in
     let n = start.requires.2 in
-    named-answer (get_or (table_in a.t.now).entries a.at no_entry).address a.algorithm _ _ _ a.set _ known.family-at.ensures c.words-at.ensures n (n ∙ length-places a.set start.ranges.set.fits)
+    named-answer (get_or (table_in a.t.now).entries a.at no_entry).address a.algorithm _ _ _ a.set _ known.family_at-family.ensures c.words_at-address.ensures n (n ∙ length-places a.set start.ranges.set.fits)
 
-pub named-spec : {M : Type 1} → statement M
-named-spec = tie.close (tie.spec (λ c κs. search rules) (λ c κs. search rules) returns)
+pub named_spec : {M : Type 1} → statement M
+named_spec =
+    tie.close
+    (tie.spec
+    (λ c κs. search rules)
+    (λ c κs. search rules)
+    returns)

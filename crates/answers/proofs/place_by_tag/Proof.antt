@@ -7,9 +7,16 @@ use Rattle.answers.proofs.place_by_tag.Tie as tie
 
 returns : tie.Need-returns
 returns c =
-    let a = c.before.before.before.before.before.args in
+    let a = c.args in
     let t = table_in a.t.now in
-    elected-at t.esi t.entries a.algorithm a.set a.tag _ _ c.before.digest-under.ensures c.elected-place.ensures
+    elected-at t.esi t.entries a.algorithm a.set a.tag _ _ c.digest_under-digest.ensures c.elected_place.ensures
 
-pub place-by-tag-spec : {M : Type 1} → statement M
-place-by-tag-spec = tie.close (tie.spec (λ c. search rules) (λ c. search rules) (λ c κs. search rules) (λ c κs. search rules) returns)
+pub place_by_tag_spec : {M : Type 1} → statement M
+place_by_tag_spec =
+    tie.close
+    (tie.spec
+    (λ c. search rules)
+    (λ c. search rules)
+    (λ c κs. search rules)
+    (λ c κs. search rules)
+    returns)

@@ -12,23 +12,28 @@ use Rattle.circuit_layout.proofs.Words.{length-valid, short, rows_are}
 use Rattle.circuit_layout.proofs.look.Statement.{statement}
 use Rattle.circuit_layout.proofs.look.Tie as tie
 
-module _ (r : tie.After-count) where
+module _ (r : tie.After-count-n) where
   abbrev from : tie.Start
   from = r.before.before.before
 
   abbrev words : List ℕ
   words = from.args.t.now
 
-  rows : rows_in (length from.args.row.now) r.count.result words ≡ circuits_in words
-  rows = ap₂ (λ (k n : ℕ). rows_in k n words) from.pre.1 r.count.ensures ∙ rows_are words from.pre.0
+  rows : rows_in (length from.args.row.now) r.count-n.result words ≡ circuits_in words
+  rows = ap₂ (λ (k n : ℕ). rows_in k n words) from.requires.1 r.count-n.ensures ∙ rows_are words from.requires.0
 
-search-requires : tie.Need-search-requires
+search-requires : tie.Need-search-r-requires
 search-requires c κs =
     let start = from c in
-    (rw start.pre.1 (omega (arith, c.count.ensures, short (words c) start.pre.0, length-valid (words c) start.pre.0)), subst (λ (l : List (List ℕ)). Rising row_key 0 l) (sym (rows c)) start.pre.0.sound.rising, omega (arith, c.count.ensures, short (words c) start.pre.0))
+    (rw start.requires.1 (omega (arith, c.count-n.ensures, short (words c) start.requires.0, length-valid (words c) start.requires.0)), subst (λ (l : List (List ℕ)). Rising row_key 0 l) (sym (rows c)) start.requires.0.sound.rising, omega (arith, c.count-n.ensures, short (words c) start.requires.0))
 
 returns : tie.Need-returns
-returns c = c.search.ensures.0 ∙ ap (λ (l : List (List ℕ)). found_in row_key (row_key (from c.before).args.row.now) l) (rows c.before)
+returns c = c.search-r.ensures.0 ∙ ap (λ (l : List (List ℕ)). found_in row_key (row_key (from c.before).args.row.now) l) (rows c.before)
 
 pub look_spec : {M : Type 1} → statement M
-look_spec = tie.close (tie.spec (λ c κs. search rules) search-requires returns)
+look_spec =
+    tie.close
+    (tie.spec
+    (λ c κs. search rules)
+    search-requires
+    returns)

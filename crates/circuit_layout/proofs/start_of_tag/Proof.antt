@@ -12,35 +12,35 @@ use Rattle.circuit_layout.proofs.Words.{length-valid, short, rows_are}
 use Rattle.circuit_layout.proofs.start_of_tag.Statement.{statement}
 use Rattle.circuit_layout.proofs.start_of_tag.Tie as tie
 
-module _ (r : tie.After-count) where
+module _ (r : tie.After-count-n) where
   abbrev from : tie.Start
   from = r.before.before
 
   abbrev words : List ℕ
   words = from.args.t.now
 
-  rows : rows_in 7 r.count.result words ≡ circuits_in words
-  rows = ap (λ (n : ℕ). rows_in 7 n words) r.count.ensures ∙ rows_are words from.pre
+  rows : rows_in 7 r.count-n.result words ≡ circuits_in words
+  rows = ap (λ (n : ℕ). rows_in 7 n words) r.count-n.ensures ∙ rows_are words from.requires
 
-  few : r.count.result ≤ 256
-  few = omega (arith, r.count.ensures, short words from.pre)
+  few : r.count-n.result ≤ 256
+  few = omega (arith, r.count-n.ensures, short words from.requires)
 
-  fits : r.count.result * 7 ≤ length words
-  fits = omega (arith, few, length-valid words from.pre)
+  fits : r.count-n.result * 7 ≤ length words
+  fits = omega (arith, few, length-valid words from.requires)
 
-  rising : Rising row_key 0 (rows_in 7 r.count.result words)
-  rising = subst (λ (l : List (List ℕ)). Rising row_key 0 l) (sym rows) from.pre.sound.rising
+  rising : Rising row_key 0 (rows_in 7 r.count-n.result words)
+  rising = subst (λ (l : List (List ℕ)). Rising row_key 0 l) (sym rows) from.requires.sound.rising
 
-  there : (p : ℕ) → p ≡ rank row_key (head_key 7 (from.args.kind * 4294967296 + from.args.tag)) (rows_in 7 r.count.result words) * 7
+  there : (p : ℕ) → p ≡ rank row_key (head_key 7 (from.args.kind * 4294967296 + from.args.tag)) (rows_in 7 r.count-n.result words) * 7
       → p ≡ rank row_key (head_key 7 (from.args.kind * 4294967296 + from.args.tag)) (circuits_in words) * 7
   there p e = e ∙ ap (λ (l : List (List ℕ)). rank row_key (head_key 7 (from.args.kind * 4294967296 + from.args.tag)) l * 7) rows
 
-pub start-of-tag-spec : {M : Type 1} → statement M
-start-of-tag-spec =
+pub start_of_tag_spec : {M : Type 1} → statement M
+start_of_tag_spec =
     tie.close
     (tie.spec
     (λ c κs. search rules)
-    (λ c κs. let r = c.before in (omega arith, omega arith, fits r, rising r, omega (arith, c.if1.true), omega arith))
-    (λ c. there c.before.before _ c.word-of-head.ensures)
+    (λ c κs. let r = c.before in (omega arith, omega arith, fits r, rising r, omega (arith, c.if-n-lt-FEW.true), omega arith))
+    (λ c. there c.before.before _ c.word_of_head.ensures)
     (λ c κs. let r = c.before in (omega arith, omega arith, fits r, rising r, omega (arith, few r), omega arith))
-    (λ c. there c.before.before _ c.word-of-head2.ensures))
+    (λ c. there c.before.before _ c.word_of_head-2.ensures))

@@ -3,7 +3,6 @@ use native.Mathlib.Omega.{arith}
 use mathlib.Core.Path.{◌∙◌}
 use mathlib.Core.Logic.{⊎_elim}
 use borrow.Author.Rules.{rules}
-use borrow.Author.Tests.{not-false}
 use Rattle.layout.specs.Words.{table_in}
 use Rattle.circuit_layout.specs.Circuits.{circuits_in}
 use Rattle.ready.proofs.Laws.{set_all}
@@ -12,14 +11,14 @@ use Rattle.circuit_ready.proofs.Laws.{all-flags, set-circuits}
 use Rattle.circuit_ready.proofs.circuit_candidates.Statement.{statement}
 use Rattle.circuit_ready.proofs.circuit_candidates.Tie as tie
 
-returns : tie.Need-returns
+returns : tie.Need-returns-then-not-all_ready
 returns c =
     let counted = c.before.before.before.before in
     let start = counted.before.before.before in
     let a = start.args in
-    c.circuit-set.ensures ∙ set-circuits (circuits_in a.circuits.now) a.tag (table_in a.t.now).entries _ start.requires.0.sound.addresses c.before.before.before.if1.true
+    c.circuit_set.ensures ∙ set-circuits (circuits_in a.circuits.now) a.tag (table_in a.t.now).entries _ start.requires.0.sound.addresses c.if-ac_df.true
 
-returns-2 : tie.Need-returns-2
+returns-2 : tie.Need-returns
 returns-2 c =
     let counted = c.before.before in
     let start = counted.before.before.before in
@@ -28,17 +27,17 @@ returns-2 c =
     let routes = circuits_in a.circuits.now in
     c.below.ensures
     ∙ ⊎_elim
-    (λ w. all-flags routes a.tag es _ counted.count.ensures (w.1.ensures (not-false _ w.2.left)) ∙ set-circuits routes a.tag es _ start.requires.0.sound.addresses w.0.taken)
-    (λ w. set_all (ready_routers routes a.tag es) es _ _ w.left counted.count.ensures)
-    c.before.if1.branch
+    (λ w. all-flags routes a.tag es _ counted.count-n.ensures (w.all_ready.ensures w.if-not-all_ready.false) ∙ set-circuits routes a.tag es _ start.requires.0.sound.addresses w.if-ac_df.true)
+    (λ w. set_all (ready_routers routes a.tag es) es _ _ w.if-ac_df.false counted.count-n.ensures)
+    c.if-ac_df.branch-raw
 
-pub circuit-candidates-spec : {M : Type 1} → statement M
-circuit-candidates-spec =
+pub circuit_candidates_spec : {M : Type 1} → statement M
+circuit_candidates_spec =
     tie.close
     (tie.spec
     (λ c κs. search rules)
-    (λ c κs. let start = c.before.before.before.before in (start.requires.0, start.requires.1, c.before.count.ensures))
+    (λ c κs. let start = c.before.before.before.before in (start.requires.0, start.requires.1, c.count-n.ensures))
     (λ c κs. search rules)
     returns
-    (λ c κs. let counted = c.before in omega (arith, counted.count.ensures, counted.before.before.before.requires.0.sound.short))
+    (λ c κs. let counted = c.before in omega (arith, counted.count-n.ensures, counted.requires.0.sound.short))
     returns-2)

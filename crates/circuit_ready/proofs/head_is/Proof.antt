@@ -9,5 +9,10 @@ use Rattle.circuit_ready.proofs.head_is.Tie as tie
 returns : tie.Need-returns
 returns c e = eqb-true _ _ (sym c.same_at.ensures ∙ e)
 
-pub head-is-spec : {M : Type 1} → statement M
-head-is-spec = tie.close (tie.spec (λ c. search rules) (λ c κs. omega arith) returns)
+pub head_is_spec : {M : Type 1} → statement M
+head_is_spec =
+    tie.close
+    (tie.spec
+    (λ c. search rules)
+    (λ c κs. omega arith)
+    returns)

@@ -9,8 +9,8 @@ use Rattle.circuit_ready.proofs.Stands.{first-fails, first_holds, head-fits, res
 use Rattle.circuit_ready.proofs.is_at.Statement.{statement}
 use Rattle.circuit_ready.proofs.is_at.Tie as tie
 
-module _ (k : tie.After-head) where
-  abbrev known : tie.After-shared-slice-known2
+module _ (k : tie.After-head-1) where
+  abbrev known : tie.After-shared_slice_known-2-1
   known = k.before
 
   abbrev from : tie.Start
@@ -27,38 +27,38 @@ module _ (k : tie.After-head) where
 
   -- the row starts at its place
   starts : from.args.start ≡ place * 7
-  starts = omega (arith, from.pre.2)
+  starts = omega (arith, from.requires.2)
 
   words-table : Words words
-  words-table j = (known.before.shared-slice-known.given j).fits
+  words-table j = (known.shared_slice_known-1.given j).fits
 
   words-address : Words address
-  words-address j = (known.shared-slice-known2.given j).fits
+  words-address j = (known.shared_slice_known-2-1.given j).fits
 
-same-at-requires : tie.Need-same-at-requires
+same-at-requires : tie.Need-same_at-requires
 same-at-requires c κs = omega (arith, head-fits (words c) (from c).requires.0 (place c) (from c).args.start (starts c) (from c).requires.3)
 
-returns : tie.Need-returns
+returns : tie.Need-returns-then-not-same_at
 returns c =
     let k = c.before.before in
     let a = (from k).args in
-    first-fails _ _ c.before.same_at.ensures c.if1.true
+    first-fails _ _ c.same_at.ensures c.if-not-same_at.true
     ∙ sym (parts-decide (words k) (from k).requires.0 (place k) a.start (starts k) (from k).requires.3 a.kind a.tag (address k) (from k).requires.1 (words-table k) (words-address k))
 
-same-at-requires-2 : tie.Need-same-at-requires-2
+same-at-requires-2 : tie.Need-same_at-requires-2
 same-at-requires-2 c κs =
     let k = c.before.before in
     omega (arith, rest-fits (words k) (from k).requires.0 (place k) (from k).args.start (starts k) (from k).requires.3 (address k) (from k).requires.1)
 
-returns-2 : tie.Need-returns-2
+returns-2 : tie.Need-returns
 returns-2 c =
     let k = c.before.before.before in
     let a = (from k).args in
-    first_holds _ _ c.before.before.same_at.ensures c.before.if1.false c.same-at2.ensures
+    first_holds _ _ c.same_at.ensures c.if-not-same_at.false c.same_at-2.ensures
     ∙ sym (parts-decide (words k) (from k).requires.0 (place k) a.start (starts k) (from k).requires.3 a.kind a.tag (address k) (from k).requires.1 (words-table k) (words-address k))
 
-pub is-at-spec : {M : Type 1} → statement M
-is-at-spec =
+pub is_at_spec : {M : Type 1} → statement M
+is_at_spec =
     tie.close
     (tie.spec
     (λ c. search rules)

@@ -18,7 +18,7 @@ use Rattle.circuit_ready.proofs.look_for.Tie as tie
 five : (s : tie.Start) → 5 ≤ length s.args.address.now
 five s = omega (arith, length-address s.args.address.now s.requires.1)
 
-module _ (k : tie.After-look) where
+module _ (k : tie.After-look-found) where
   abbrev from : tie.Start
   from = k.before.before.before.before.before.before.before.before.before
 
@@ -28,31 +28,31 @@ module _ (k : tie.After-look) where
   abbrev key : ℕ
   key = row_key (from.args.kind ∷ from.args.tag ∷ from.args.address.now)
 
-  found : (f : Found) → k.look.result ≡ f → found_in row_key key routes ≡ f
+  found : (f : Found) → k.look-found.result ≡ f → found_in row_key key routes ≡ f
   found f e =
       let a = from.args in
-      ap (λ (r : List ℕ). found_in row_key (row_key (a.kind ∷ a.tag ∷ r)) routes) (sym (five-words a.address.now from.pre.1)) ∙ sym k.look.ensures ∙ e
+      ap (λ (r : List ℕ). found_in row_key (row_key (a.kind ∷ a.tag ∷ r)) routes) (sym (five-words a.address.now from.requires.1)) ∙ sym k.look-found.ensures ∙ e
 
-add-t23 : tie.Need-overflow-add-t23
+add-t23 : tie.Need-overflow_add-result
 add-t23 c =
-    let k = c.before.before.before in
+    let k = c.before in
     let s = (from k).requires.0.sound in
-    omega (arith, s.short, at_lt row_key (key k) (routes k) 0 [] s.rising _ (found k _ c.before.found.given.1))
+    omega (arith, s.short, at_lt row_key (key k) (routes k) 0 [] s.rising _ (found k _ c.in-At.is))
 
-returns : tie.Need-returns
+returns : tie.Need-returns-in-At
 returns c =
-    let k = c.before.before.before in
-    let f = found_at row_key (key k) (routes k) _ (found k _ c.before.found.given.1) in
+    let k = c.before in
+    let f = found_at row_key (key k) (routes k) _ (found k _ c.in-At.is) in
     (sym f.0, omega (arith, f.1))
 
-returns-2 : tie.Need-returns-2
+returns-2 : tie.Need-returns-in-Missing
 returns-2 c =
-    let k = c.before.before.before in
-    let f = found-missing row_key (key k) (routes k) _ (found k _ c.before.found2.given.1) in
+    let k = c.before in
+    let f = found-missing row_key (key k) (routes k) _ (found k _ c.in-Missing.is) in
     (sym f.0, omega (arith, f.1))
 
-pub look-for-spec : {M : Type 1} → statement M
-look-for-spec =
+pub look_for_spec : {M : Type 1} → statement M
+look_for_spec =
     tie.close
     (tie.spec
     (λ c. omega (arith, five c.before.before.before))

@@ -23,9 +23,9 @@ use Rattle.circuits.proofs.announce.Statement.{statement}
 use Rattle.circuits.proofs.announce.Tie as tie
 
 -- what is known once the route was looked for
-module _ (k : tie.After-look) where
-  abbrev tested : tie.Else1
-  tested = k.before.before.before.before
+module _ (k : tie.After-look-found) where
+  abbrev tested : tie.Else-number-ne0
+  tested = k.before.before.before
 
   abbrev from : tie.Start
   from = tested.before.before.before
@@ -40,61 +40,61 @@ module _ (k : tie.After-look) where
   a = address_row from.args.address
 
   passed : (is_zero a ≡ false) × (reserved_scope s ≡ false)
-  passed = not-refused s a (sym tested.before.refused.ensures ∙ tested.if1.left)
+  passed = not-refused s a (sym tested.refused-number.ensures ∙ tested.if-number-ne0.false)
 
   width : length (ad_row s a) ≡ 7
   width = omega (arith, length-row s a, length-address a (row-address from.args.address))
 
   row_fits : Words (ad_row s a)
-  row_fits i = rw (← k.before.before.before.row.ensures) (fits i).fits
+  row_fits i = rw (← k.row-row.ensures) (fits i).fits
     where
-      fits : (i : ℕ) → Fits w32 (get_or k.before.before.before.row.result i 0)
+      fits : (i : ℕ) → Fits w32 (get_or k.row-row.result i 0)
       fits i = search rules
 
-  found : (f : Found) → k.look.result ≡ f → found_in row_key (row_key (ad_row s a)) (circuits_in words) ≡ f
-  found f e = sym (k.look.ensures ∙ ap (λ (r : List ℕ). found_in row_key (row_key r) (circuits_in words)) k.before.before.before.row.ensures) ∙ e
+  found : (f : Found) → k.look-found.result ≡ f → found_in row_key (row_key (ad_row s a)) (circuits_in words) ≡ f
+  found f e = sym (k.look-found.ensures ∙ ap (λ (r : List ℕ). found_in row_key (row_key r) (circuits_in words)) k.row-row.ensures) ∙ e
 
-returns : tie.Need-returns
+returns : tie.Need-returns-then-number-ne0
 returns c =
     let start = c.before.before.before in
     let b = start.args.t.now in
-    left_alone b start.requires _ _ (announced-refused (circuits_in b) start.requires.sound start.args.scope (address_row start.args.address) _ c.before.refused.ensures c.if1.true)
+    left_alone b start.requires _ _ (announced-refused (circuits_in b) start.requires.sound start.args.scope (address_row start.args.address) _ c.refused-number.ensures c.if-number-ne0.true)
 
-returns-2 : tie.Need-returns-2
+returns-2 : tie.Need-returns-in_default
 returns-2 c =
-    let k = c.before.before in
+    let k = c.before in
     let b = words k in
-    let f = found k _ c.enum_told.given.1 in
-    let same = same_route b (from k).requires (s k) (a k) _ (width k) (row_fits k) (λ j. ((tested k).before.before.slice-known.given j).fits) f in
+    let f = found k _ c.in_default.is in
+    let same = same_route b (from k).requires (s k) (a k) _ (width k) (row_fits k) (λ j. ((tested k).before.before.slice_known-1.given j).fits) f in
     left_alone b (from k).requires _ 0 (announced-at (circuits_in b) (from k).requires.sound (s k) (a k) (passed k).0 (passed k).1 _ f same)
 
 -- the look, once it is known that the route is new
-abbrev looked : tie.After-count → tie.After-look
-looked n = n.before.before.before.before.before
+abbrev looked : tie.After-count → tie.After-look-found
+looked n = n.before.before
 
-returns-3 : tie.Need-returns-3
+returns-3 : tie.Need-returns-then-count-ge-CAPACITY
 returns-3 c =
     let n = c.before in
     let k = looked n in
-    left_alone (words k) (from k).pre _ 8 (announced-full (circuits_in (words k)) (from k).pre.sound (s k) (a k) (passed k).0 (passed k).1 _ (found k _ n.before.before.before.found.given.1) (rw (← n.count.ensures) (omega arith)))
+    left_alone (words k) (from k).requires _ 8 (announced-full (circuits_in (words k)) (from k).requires.sound (s k) (a k) (passed k).0 (passed k).1 _ (found k _ n.in-Missing.is) (rw (← n.count.ensures) (omega arith)))
 
 grow-requires : tie.Need-grow-requires
 grow-requires c κs =
     let n = c.before.before.before in
     let k = looked n in
-    ((from k).pre, missing-le row_key _ (circuits_in (words k)) _ (found k _ n.before.before.before.found.given.1), rw (← n.count.ensures) (omega arith), rw k.before.before.before.row.ensures (width k))
+    ((from k).requires, missing-le row_key _ (circuits_in (words k)) _ (found k _ n.in-Missing.is), rw (← n.count.ensures) (omega arith), rw k.row-row.ensures (width k))
 
-returns-4 : tie.Need-returns-4
+returns-4 : tie.Need-returns
 returns-4 c =
     let d = c.before.before in
     let n = d.before.before.before.before in
     let k = looked n in
-    announced-stored (words k) (from k).pre (s k) (a k) _ _ (row-address (from k).args.address)
-    (announced-new (circuits_in (words k)) (from k).pre.sound (s k) (a k) (passed k).0 (passed k).1 _ (found k _ n.before.before.before.found.given.1) (rw (← n.count.ensures) (omega arith)))
-    (rw k.before.before.before.row.ensures at d.grow.ensures)
+    announced-stored (words k) (from k).requires (s k) (a k) _ _ (row-address (from k).args.address)
+    (announced-new (circuits_in (words k)) (from k).requires.sound (s k) (a k) (passed k).0 (passed k).1 _ (found k _ n.in-Missing.is) (rw (← n.count.ensures) (omega arith)))
+    (rw k.row-row.ensures at d.grow.ensures)
 
-pub announce-spec : {M : Type 1} → statement M
-announce-spec =
+pub announce_spec : {M : Type 1} → statement M
+announce_spec =
     tie.close
     (tie.spec
     (λ c κs. search rules)

@@ -6,17 +6,24 @@ use Rattle.circuits.specs.Steps.{ad_refused}
 use Rattle.circuits.proofs.refused.Statement.{statement}
 use Rattle.circuits.proofs.refused.Tie as tie
 
-returns : tie.Need-returns
+returns : tie.Need-returns-then-zero
 unfolding ad_refused
-returns c = refused-at 0 _ tt (sym c.before.before.is_zero.ensures ∙ c.if1.true)
+returns c = refused-at 0 _ tt (sym c.is_zero-zero.ensures ∙ c.if-zero.true)
 
-returns-2 : tie.Need-returns-2
+returns-2 : tie.Need-returns-then-reserved
 unfolding ad_refused
-returns-2 c = refused-at 1 _ (sym c.before.before.before.is_zero.ensures ∙ c.before.if1.false, tt) (sym c.before.before.is-reserved.ensures ∙ c.if2.true)
+returns-2 c = refused-at 1 _ (sym c.is_zero-zero.ensures ∙ c.if-zero.false, tt) (sym c.is_reserved-reserved.ensures ∙ c.if-reserved.true)
 
-returns-3 : tie.Need-returns-3
+returns-3 : tie.Need-returns
 unfolding ad_refused
-returns-3 c = refused_none _ (sym c.before.before.before.is_zero.ensures ∙ c.before.if1.false, (sym c.before.before.is-reserved.ensures ∙ c.if2.false, tt))
+returns-3 c = refused_none _ (sym c.is_zero-zero.ensures ∙ c.if-zero.false, (sym c.is_reserved-reserved.ensures ∙ c.if-reserved.false, tt))
 
-pub refused-spec : {M : Type 1} → statement M
-refused-spec = tie.close (tie.spec (λ c κs. search rules) (λ c κs. search rules) returns returns-2 returns-3)
+pub refused_spec : {M : Type 1} → statement M
+refused_spec =
+    tie.close
+    (tie.spec
+    (λ c κs. search rules)
+    (λ c κs. search rules)
+    returns
+    returns-2
+    returns-3)

@@ -2,17 +2,23 @@
 use Rattle.community.proofs.capabilities.Statement.{statement}
 use Rattle.community.proofs.capabilities.Tie as tie
 
-returns : tie.Need-returns
-returns c = rw (c.before.if1.true, c.if2.true)
+returns : tie.Need-returns-then-ac_df
+returns c = rw (c.if-dp.true, c.if-ac_df.true)
 
-returns-2 : tie.Need-returns-2
-returns-2 c = rw (c.before.if1.true, c.if2.false)
+returns-2 : tie.Need-returns-else-ac_df
+returns-2 c = rw (c.if-dp.true, c.if-ac_df.false)
 
-returns-3 : tie.Need-returns-3
-returns-3 c = rw (c.before.if1.false, c.if3.true)
+returns-3 : tie.Need-returns-then-ac_df-2
+returns-3 c = rw (c.if-dp.false, c.if-ac_df-2.true)
 
-returns-4 : tie.Need-returns-4
-returns-4 c = rw (c.before.if1.false, c.if3.false)
+returns-4 : tie.Need-returns-else-ac_df-2
+returns-4 c = rw (c.if-dp.false, c.if-ac_df-2.false)
 
-pub capabilities-spec : {M : Type 1} → statement M
-capabilities-spec = tie.close (tie.spec returns returns-2 returns-3 returns-4)
+pub capabilities_spec : {M : Type 1} → statement M
+capabilities_spec =
+    tie.close
+    (tie.spec
+    returns
+    returns-2
+    returns-3
+    returns-4)

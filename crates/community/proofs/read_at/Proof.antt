@@ -8,10 +8,10 @@ use Rattle.community.proofs.read_at.Tie as tie
 returns : tie.Need-returns
 returns c =
     let start = c.before.before.before.before.before.before.before in
-    c.under.ensures ∙ read_at start.args.s.now start.args.at c.before.u16-of.result start.requires c.before.u16-of.ensures
+    c.under.ensures ∙ read_at start.args.s.now start.args.at c.u16_of-preference.result start.requires c.u16_of-preference.ensures
 
-pub read-at-spec : {M : Type 1} → statement M
-read-at-spec =
+pub read_at_spec : {M : Type 1} → statement M
+read_at_spec =
     tie.close
     (tie.spec
     (λ c. search rules)

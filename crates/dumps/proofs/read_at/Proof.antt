@@ -9,40 +9,40 @@ use Rattle.dumps.proofs.read_at.Statement.{statement}
 use Rattle.dumps.proofs.read_at.Tie as tie
 
 -- a whole record at the position
-whole_here : (c : tie.After-frame) → WholeAt c.before.before.before.before.args.s.now c.before.before.before.before.args.at c.frame.given.0.0 c.frame.given.0.1.0 c.frame.given.0.1.1.0
+whole_here : (c : tie.In-Whole) → WholeAt c.args.s.now c.args.at c.in-Whole.kind c.in-Whole.start c.in-Whole.len
 whole_here c =
-    let a = c.before.before.before.before.args in
-    frame-told a.s.now a.at (sym c.before.before.frame_at.ensures ∙ c.frame.given.1)
+    let a = c.args in
+    frame-told a.s.now a.at (sym c.frame_at-frame.ensures ∙ c.in-Whole.is)
 
-add-after : tie.Need-overflow-add-after
-add-after c = omega (arith, (whole_here c.before).fits)
+add-after : tie.Need-overflow_add-after
+add-after c = omega (arith, (whole_here c).fits)
 
-part-read-record-end : tie.Need-slice-bounds-read-record-end
-part-read-record-end c = omega (arith, (whole_here c.before).fits)
+part-read-record-end : tie.Need-slice_bounds-read_record-end
+part-read-record-end c = omega (arith, (whole_here c).fits)
 
-returns : tie.Need-returns
+returns : tie.Need-returns-in-Nothing
 returns c =
-    let a = c.before.before.before.before.args in
-    read-end (address_row a.address) a.s.now a.at (frame-told a.s.now a.at (sym c.before.before.frame_at.ensures ∙ c.enum_told.given.1))
+    let a = c.args in
+    read-end (address_row a.address) a.s.now a.at (frame-told a.s.now a.at (sym c.frame_at-frame.ensures ∙ c.in-Nothing.is))
 
-returns-2 : tie.Need-returns-2
+returns-2 : tie.Need-returns-in-Bad
 returns-2 c =
-    let a = c.before.before.before.before.args in
-    read-spoilt (address_row a.address) a.s.now a.at (frame-told a.s.now a.at (sym c.before.before.frame_at.ensures ∙ c.enum-told2.given.1))
+    let a = c.args in
+    read-spoilt (address_row a.address) a.s.now a.at (frame-told a.s.now a.at (sym c.frame_at-frame.ensures ∙ c.in-Bad.is))
 
-returns-3 : tie.Need-returns-3
+returns-3 : tie.Need-returns-in-Cut
 returns-3 c =
-    let a = c.before.before.before.before.args in
-    read-cut (address_row a.address) a.s.now a.at (frame-told a.s.now a.at (sym c.before.before.frame_at.ensures ∙ c.enum-told3.given.1))
+    let a = c.args in
+    read-cut (address_row a.address) a.s.now a.at (frame-told a.s.now a.at (sym c.frame_at-frame.ensures ∙ c.in-Cut.is))
 
-returns-4 : tie.Need-returns-4
+returns-4 : tie.Need-returns-in-Whole
 returns-4 c =
-    let here = c.before.before.before in
-    let a = here.before.before.before.before.args in
-    c.read-record.ensures ∙ read_whole (address_row a.address) a.s.now a.at _ _ _ (whole_here here)
+    let here = c in
+    let a = here.args in
+    c.read_record.ensures ∙ read_whole (address_row a.address) a.s.now a.at _ _ _ (whole_here here.before.before)
 
-pub read-at-spec : {M : Type 1} → statement M
-read-at-spec =
+pub read_at_spec : {M : Type 1} → statement M
+read_at_spec =
     tie.close
     (tie.spec
     (λ c κs. search rules)

@@ -6,7 +6,6 @@ use mathlib.Core.List.{List, [], ◌++◌}
 use mathlib.Core.Logic.{⊎_elim}
 use lib.ListN.{length}
 use borrow.Author.Rules.{rules}
-use borrow.Author.Tests.{not-true, not-false}
 use Rattle.lists.proofs.Bools.{true-false}
 use Rattle.hrw.specs.Weight.{flow_digest_of}
 use Rattle.answers.specs.Steps.{digest_under}
@@ -34,21 +33,21 @@ returns c =
     let asked = join.before in
     let start = asked.before.before.before.before.before in (
       λ e.
-          let b = asked.agreed-on.ensures ∙ e in
+          let b = asked.agreed_on-by_flow.ensures ∙ e in
           ⊎_elim
-          (λ w. absurd (true-false b (not-true _ w.0.taken)))
-          (λ w. (w.1, by-flow _ _ _ _ _ _ _ _ _ b w.1 first.octets-if.ensures second.octets-if2.ensures c.digest-under.ensures, w.2))
-          join.if1.branch,
+          (λ w. absurd (true-false b (w.if-not-by_flow.true)))
+          (λ w. (w.algorithm-is, by-flow _ _ _ _ _ _ _ _ _ b w.algorithm-is first.octets_if-s.ensures second.octets_if-g.ensures c.digest_under-digest.ensures, w.told-is))
+          join.if-not-by_flow.branch-raw,
       λ e.
-          let b = asked.agreed-on.ensures ∙ e in
+          let b = asked.agreed_on-by_flow.ensures ∙ e in
           ⊎_elim
-          (λ w. (w.2 ∙ w.1.ensures, by-tag _ _ _ _ _ _ _ _ _ b first.octets-if.ensures second.octets-if2.ensures c.digest-under.ensures, w.3 ∙ sym w.2))
-          (λ w. absurd (true-false (not-false _ w.0.left) b))
-          join.if1.branch,
+          (λ w. (w.algorithm-is ∙ w.plain_algorithm-algorithm.ensures, by-tag _ _ _ _ _ _ _ _ _ b first.octets_if-s.ensures second.octets_if-g.ensures c.digest_under-digest.ensures, w.told-is ∙ sym w.algorithm-is))
+          (λ w. absurd (true-false (w.if-not-by_flow.false) b))
+          join.if-not-by_flow.branch-raw,
     )
 
-pub method-spec : {M : Type 1} → statement M
-method-spec =
+pub method_spec : {M : Type 1} → statement M
+method_spec =
     tie.close
     (tie.spec
     (λ c κs. search rules)
@@ -58,6 +57,6 @@ method-spec =
     (λ c κs.
     let asked = c.before.before.before in
     let start = asked.before.before.before.before.before in
-    let b = asked.agreed-on.result in
-    (start.requires.0, whole b start.args.source.now _ c.before.octets-if.ensures start.requires.3, whole b start.args.group.now _ c.octets-if2.ensures start.requires.4))
+    let b = asked.agreed_on-by_flow.result in
+    (start.requires.0, whole b start.args.source.now _ c.before.octets_if-s.ensures start.requires.3, whole b start.args.group.now _ c.octets_if-g.ensures start.requires.4))
     returns)

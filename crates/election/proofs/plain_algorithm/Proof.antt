@@ -6,17 +6,23 @@ use Rattle.election.specs.Queries.{plain_algorithm}
 use Rattle.election.proofs.plain_algorithm.Statement.{statement}
 use Rattle.election.proofs.plain_algorithm.Tie as tie
 
-returns : tie.Need-returns
+returns : tie.Need-returns-then-in_use-lt2
 unfolding plain_algorithm
-returns c = rw (lt-ltb _ 2 c.if1.true)
+returns c = rw (lt-ltb _ 2 c.if-in_use-lt2.true)
 
-returns-2 : tie.Need-returns-2
+returns-2 : tie.Need-returns-then-in_use-gt3
 unfolding plain_algorithm
-returns-2 c = rw (le-ltb _ 2 c.before.if1.false, lt-ltb 3 _ c.if2.true)
+returns-2 c = rw (le-ltb _ 2 c.if-in_use-lt2.false, lt-ltb 3 _ c.if-in_use-gt3.true)
 
-returns-3 : tie.Need-returns-3
+returns-3 : tie.Need-returns
 unfolding plain_algorithm
-returns-3 c = c.algorithm-for.ensures ∙ sym (rw (le-ltb _ 2 c.before.before.if1.false, le-ltb 3 _ c.before.if2.false))
+returns-3 c = c.algorithm_for.ensures ∙ sym (rw (le-ltb _ 2 c.if-in_use-lt2.false, le-ltb 3 _ c.if-in_use-gt3.false))
 
-pub plain-algorithm-spec : {M : Type 1} → statement M
-plain-algorithm-spec = tie.close (tie.spec returns returns-2 (λ c κs. search rules) returns-3)
+pub plain_algorithm_spec : {M : Type 1} → statement M
+plain_algorithm_spec =
+    tie.close
+    (tie.spec
+    returns
+    returns-2
+    (λ c κs. search rules)
+    returns-3)

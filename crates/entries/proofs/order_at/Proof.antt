@@ -8,48 +8,48 @@ use Rattle.entries.proofs.order_at.Statement.{statement}
 use Rattle.entries.proofs.order_at.Tie as tie
 
 -- what is known of the words
-beside : (c : tie.After-shared-slice-known2) → let a = c.before.before.args in Beside a.t.now a.at a.row.now
+beside : (c : tie.After-shared_slice_known-2-1) → let a = c.args in Beside a.t.now a.at a.row.now
 beside c =
     let from = c.before.before in
     record {
       valid = from.requires.0;
       used = from.requires.1;
-      words = λ j. (c.before.shared-slice-known.given j).fits;
+      words = λ j. (c.shared_slice_known-1.given j).fits;
       five = from.requires.2;
-      row_words = λ j. (c.shared-slice-known2.given j).fits;
+      row_words = λ j. (c.shared_slice_known-2-1.given j).fits;
     }
 
-returns : tie.Need-returns
+returns : tie.Need-returns-then-row-eq4
 returns c =
     let arm = c.before.before in
-    let k = arm.before.before in
+    let k = arm.before in
     let near = beside k.before.before in (
-      λ _. four_same near _ k.compare.ensures arm.enum-told2.given.1 c.if1.true,
-      λ _. names near _ k.compare.ensures arm.enum-told2.given.1,
+      λ _. four_same near _ k.compare-head.ensures arm.in-Equal.is c.if-row-eq4.true,
+      λ _. names near _ k.compare-head.ensures arm.in-Equal.is,
     )
 
-returns-2 : tie.Need-returns-2
+returns-2 : tie.Need-returns-in-Less
 returns-2 c =
-    let k = c.before.before in
-    (head-decides (beside k.before.before) Less (sym c.enum_told.given.1 ∙ k.compare.ensures) (λ x. refl), λ z. never (cc))
+    let k = c.before in
+    (head-decides (beside k.before.before) Less (sym c.in-Less.is ∙ k.compare-head.ensures) (λ x. refl), λ z. never (cc))
 
-returns-3 : tie.Need-returns-3
+returns-3 : tie.Need-returns-else-row-eq4
 returns-3 c =
     let other = c.before.before in
     let arm = other.before.before in
-    let k = arm.before.before in
+    let k = arm.before in
     let near = beside k.before.before in (
-      λ _. six-rest near _ k.compare.ensures arm.enum-told2.given.1 other.if1.false _ c.compare2.ensures,
-      λ _. names near _ k.compare.ensures arm.enum-told2.given.1,
+      λ _. six-rest near _ k.compare-head.ensures arm.in-Equal.is other.if-row-eq4.false _ c.compare.ensures,
+      λ _. names near _ k.compare-head.ensures arm.in-Equal.is,
     )
 
-returns-4 : tie.Need-returns-4
+returns-4 : tie.Need-returns-in-Greater
 returns-4 c =
-    let k = c.before.before in
-    (head-decides (beside k.before.before) Greater (sym c.enum-told3.given.1 ∙ k.compare.ensures) (λ x. refl), λ z. never (cc))
+    let k = c.before in
+    (head-decides (beside k.before.before) Greater (sym c.in-Greater.is ∙ k.compare-head.ensures) (λ x. refl), λ z. never (cc))
 
-pub order-at-spec : {M : Type 1} → statement M
-order-at-spec =
+pub order_at_spec : {M : Type 1} → statement M
+order_at_spec =
     tie.close
     (tie.spec
     (λ c. search rules)
@@ -65,7 +65,7 @@ order-at-spec =
     (λ c. search rules)
     (λ c. search rules)
     (λ c. search rules)
-    (λ c κs. tail-fits (beside c.before.before.before.before.before.before.before))
+    (λ c κs. tail-fits (beside c.before.before.before.before.before.before))
     (λ c. search rules)
     returns-2
     returns-3

@@ -6,13 +6,13 @@ use Rattle.entries.proofs.Lookups.{fits, rise, whole, found-told, between-told}
 use Rattle.entries.proofs.search.Statement.{statement}
 use Rattle.entries.proofs.search.Tie as tie
 
-search-between-requires : tie.Need-search-between-requires
+search-between-requires : tie.Need-search_between-requires
 search-between-requires c κs =
     let start = c.before.before.before.before in
     let a = start.args in
     let b = a.t.now in
-    let row = c.before.row in
-    let z = c.before.before.count.ensures in
+    let row = c.row-row in
+    let z = c.count-n.ensures in
     let r = address_row a.address in (
       fits b _ _ r start.requires z row.ensures.0 row.ensures.1.0,
       rise b _ _ r start.requires z row.ensures.0 row.ensures.1.0,
@@ -26,11 +26,18 @@ returns c =
     let start = c.before.before.before.before.before in
     let a = start.args in
     let b = a.t.now in
-    let row = c.before.before.row in
-    let z = c.before.before.before.count.ensures in
+    let row = c.row-row in
+    let z = c.count-n.ensures in
     let r = address_row a.address in
-    let told = c.search-between.ensures in
+    let told = c.search_between.ensures in
     (found-told b _ _ r start.requires z row.ensures.0 row.ensures.1.0 _ told.0, between-told b _ _ r start.requires z row.ensures.0 row.ensures.1.0 _ (omega (arith, told.1)))
 
-pub search-spec : {M : Type 1} → statement M
-search-spec = tie.close (tie.spec (λ c κs. search rules) (λ c κs. search rules) (λ c. search rules) search-between-requires returns)
+pub search_spec : {M : Type 1} → statement M
+search_spec =
+    tie.close
+    (tie.spec
+    (λ c κs. search rules)
+    (λ c κs. search rules)
+    (λ c. search rules)
+    search-between-requires
+    returns)

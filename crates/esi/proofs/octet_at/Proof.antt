@@ -23,24 +23,24 @@ module _ (t : List ℕ) (k : ℕ) (p : (well_formed t ≡ true) × (k < 10)) whe
   low : value_of_digit (get_or t (3 * k + 1) 0) < 16
   low = low_value t (well-formed-right t p.0) k p.1
 
-shared-slice-read-digit-value : tie.Need-shared-slice-read-digit-value
-shared-slice-read-digit-value c = omega (arith, long _ _ c.before.before.requires)
+shared-slice-read-digit-value : tie.Need-bounds-text-k
+shared-slice-read-digit-value c = omega (arith, long _ _ c.requires)
 
-mul-result : tie.Need-overflow-mul-result
-mul-result c = omega (arith, c.digit_value.ensures, high _ _ c.before.before.before.requires)
+mul-result : tie.Need-overflow_mul-result
+mul-result c = omega (arith, c.digit_value.ensures, high _ _ c.requires)
 
-shared-slice-read-digit-value-2 : tie.Need-shared-slice-read-digit-value-2
-shared-slice-read-digit-value-2 c = omega (arith, long _ _ c.before.before.before.before.requires)
+shared-slice-read-digit-value-2 : tie.Need-bounds-text-k-2
+shared-slice-read-digit-value-2 c = omega (arith, long _ _ c.requires)
 
-add-result : tie.Need-overflow-add-result
-add-result c = omega (arith, c.before.before.digit_value.ensures, c.digit-value2.ensures, high _ _ c.before.before.before.before.before.requires, low _ _ c.before.before.before.before.before.requires)
+add-result : tie.Need-overflow_add-result
+add-result c = omega (arith, c.digit_value.ensures, c.digit_value-2.ensures, high _ _ c.requires, low _ _ c.requires)
 
 returns : tie.Need-returns
 unfolding octet_at
-returns c = ap₂ (λ (x y : ℕ). x * 16 + y) c.before.before.digit_value.ensures c.digit-value2.ensures
+returns c = ap₂ (λ (x y : ℕ). x * 16 + y) c.digit_value.ensures c.digit_value-2.ensures
 
-pub octet-at-spec : {M : Type 1} → statement M
-octet-at-spec =
+pub octet_at_spec : {M : Type 1} → statement M
+octet_at_spec =
     tie.close
     (tie.spec
     (λ c. search rules)

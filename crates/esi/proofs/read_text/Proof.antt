@@ -21,43 +21,43 @@ done t a o e = (e, (rw e (read-fault t), rw e (text-of-read t o)))
 formed : (t : List ℕ) {w : ℕ} → w ≡ first_wrong t → length t ≡ 29 → w ≡ 29 → well_formed t ≡ true
 formed t e n h = well-formed t n (sym e ∙ h)
 
-returns : tie.Need-returns
+returns : tie.Need-returns-then-text-ne-TEXT_LENGTH
 returns c =
-    let t = c.before.before.before.before.args.text.now in
-    done t c.refusal.result (λ i. omega (arith, c.before.before.before.shared-slice-known.given i))
-    (c.refusal.ensures ∙ ap (refused 13) c.before.before.first-wrong.ensures ∙ sym (read-malformed t (malformed-length t (omega arith))))
+    let t = c.args.text.now in
+    done t c.refusal.result (λ i. omega (arith, c.shared_slice_known-1.given i))
+    (c.refusal.ensures ∙ ap (refused 13) c.first_wrong-wrong.ensures ∙ sym (read-malformed t (malformed-length t (omega arith))))
 
-returns-2 : tie.Need-returns-2
+returns-2 : tie.Need-returns-then-wrong-ne-TEXT_LENGTH
 returns-2 c =
-    let t = c.before.before.before.before.before.args.text.now in
-    done t c.refusal2.result (λ i. omega (arith, c.before.before.before.before.shared-slice-known.given i))
-    (c.refusal2.ensures ∙ ap (refused 13) c.before.before.before.first-wrong.ensures ∙ sym (read-malformed t (malformed-at t (λ e. omega (arith, c.before.before.before.first-wrong.ensures)))))
+    let t = c.args.text.now in
+    done t c.refusal-then-wrong-ne-TEXT_LENGTH.result (λ i. omega (arith, c.shared_slice_known-1.given i))
+    (c.refusal-then-wrong-ne-TEXT_LENGTH.ensures ∙ ap (refused 13) c.first_wrong-wrong.ensures ∙ sym (read-malformed t (malformed-at t (λ e. omega (arith, c.first_wrong-wrong.ensures)))))
 
-esi-in-requires : tie.Need-esi-in-requires
-esi-in-requires c κs = formed _ c.before.before.first-wrong.ensures (omega arith) c.if2.false
+esi-in-requires : tie.Need-esi_in-esi-requires
+esi-in-requires c κs = formed _ c.first_wrong-wrong.ensures (omega arith) c.if-wrong-ne-TEXT_LENGTH.false
 
-returns-3 : tie.Need-returns-3
+returns-3 : tie.Need-returns-then-is_reserved
 returns-3 c =
     let at = c.before.before in
     let got = at.before.before in
-    let t = got.before.before.before.before.before.args.text.now in
-    let e : got.esi-in.result ≡ esi_in t = got.esi-in.ensures in
-    done t c.refusal3.result (λ i. omega (arith, got.before.before.before.before.shared-slice-known.given i))
-    (c.refusal3.ensures
-    ∙ sym (read-reserved t (formed t got.before.before.before.first-wrong.ensures (omega arith) got.before.if2.false) (rw (← e) (sym at.is-reserved.ensures ∙ c.before.if3.true))))
+    let t = got.args.text.now in
+    let e : got.esi_in-esi.result ≡ esi_in t = got.esi_in-esi.ensures in
+    done t c.refusal-then-is_reserved.result (λ i. omega (arith, got.shared_slice_known-1.given i))
+    (c.refusal-then-is_reserved.ensures
+    ∙ sym (read-reserved t (formed t got.first_wrong-wrong.ensures (omega arith) got.if-wrong-ne-TEXT_LENGTH.false) (rw (← e) (sym at.is_reserved.ensures ∙ c.if-is_reserved.true))))
 
-returns-4 : tie.Need-returns-4
+returns-4 : tie.Need-returns
 returns-4 c =
     let at = c.before in
     let got = at.before.before in
-    let t = got.before.before.before.before.before.args.text.now in
-    let e : got.esi-in.result ≡ esi_in t = got.esi-in.ensures in
-    done t (accepted got.esi-in.result) (λ i. omega (arith, got.before.before.before.before.shared-slice-known.given i))
+    let t = got.args.text.now in
+    let e : got.esi_in-esi.result ≡ esi_in t = got.esi_in-esi.ensures in
+    done t (accepted got.esi_in-esi.result) (λ i. omega (arith, got.shared_slice_known-1.given i))
     (ap accepted e
-    ∙ sym (read-accepted t (formed t got.before.before.before.first-wrong.ensures (omega arith) got.before.if2.false) (rw (← e) (sym at.is-reserved.ensures ∙ c.if3.false))))
+    ∙ sym (read-accepted t (formed t got.first_wrong-wrong.ensures (omega arith) got.if-wrong-ne-TEXT_LENGTH.false) (rw (← e) (sym at.is_reserved.ensures ∙ c.if-is_reserved.false))))
 
-pub read-text-spec : {M : Type 1} → statement M
-read-text-spec =
+pub read_text_spec : {M : Type 1} → statement M
+read_text_spec =
     tie.close
     (tie.spec
     (λ c κs. search rules)

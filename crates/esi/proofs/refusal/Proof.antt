@@ -3,5 +3,8 @@ use mathlib.Core.Path.{refl}
 use Rattle.esi.proofs.refusal.Statement.{statement}
 use Rattle.esi.proofs.refusal.Tie as tie
 
-pub refusal-spec : {M : Type 1} → statement M
-refusal-spec = tie.close (tie.spec (λ c. refl))
+pub refusal_spec : {M : Type 1} → statement M
+refusal_spec =
+    tie.close
+    (tie.spec
+    (λ c. refl))

@@ -6,21 +6,21 @@ use Rattle.esi.proofs.Places.{text-colon, text-high, text-low}
 use Rattle.esi.proofs.text_at.Statement.{statement}
 use Rattle.esi.proofs.text_at.Tie as tie
 
-returns : tie.Need-returns
-returns c = sym (text-colon c.before.before.args.esi.now c.before.before.args.i c.if1.true)
+returns : tie.Need-returns-then-i-eq2
+returns c = sym (text-colon c.args.esi.now c.args.i c.if-i-eq2.true)
 
-returns-2 : tie.Need-returns-2
+returns-2 : tie.Need-returns-then-i-eq0
 returns-2 c =
-    let at = c.before.before.before.before.before.args in
-    c.hex-digit.ensures ∙ sym (text-high at.esi.now at.i (omega arith))
+    let at = c.args in
+    c.hex_digit.ensures ∙ sym (text-high at.esi.now at.i (omega arith))
 
-returns-3 : tie.Need-returns-3
+returns-3 : tie.Need-returns
 returns-3 c =
-    let at = c.before.before.before.before.before.args in
-    c.hex-digit2.ensures ∙ sym (text-low at.esi.now at.i (omega arith))
+    let at = c.args in
+    c.hex_digit-2.ensures ∙ sym (text-low at.esi.now at.i (omega arith))
 
-pub text-at-spec : {M : Type 1} → statement M
-text-at-spec =
+pub text_at_spec : {M : Type 1} → statement M
+text_at_spec =
     tie.close
     (tie.spec
     returns

@@ -14,10 +14,10 @@ use Rattle.esi.proofs.Laws.{length-not-reserved, number-reserved, number_short, 
 use Rattle.esi.proofs.write_text.Statement.{statement}
 use Rattle.esi.proofs.write_text.Tie as tie
 
-abbrev invariant-loop : tie.invariant-loop
+abbrev invariant-loop : tie.invariant-loop-offset
 invariant-loop buf₀ esi offset₀ buf offset = (offset ≤ 29) × (length buf ≡ length buf₀) × (buf ≡ take offset (text_of esi) ++ drop offset buf₀)
 
-abbrev decreases-loop : tie.decreases-loop
+abbrev decreases-loop : tie.decreases-loop-offset
 decreases-loop buf₀ esi offset₀ buf offset = 29 - offset
 
 -- the contract's three clauses, of the answer n and the buffer l at the end
@@ -34,49 +34,49 @@ module _ (d s : List ℕ) where
       let w : l ≡ text_written d s = e ∙ sym (written-text d s n) in
       (n, (w, λ z. rw (w, take-written d s n) (read-of-text s o h)))
 
-returns : tie.Need-returns invariant-loop decreases-loop
+returns : tie.Need-returns-then-is_reserved invariant-loop decreases-loop
 returns c =
-    let at = c.before.before.before.before.args in
-    refused at.buf.now at.esi.now 4 (number-reserved at.buf.now at.esi.now (sym c.before.is-reserved.ensures ∙ c.if1.true)) (omega arith)
+    let at = c.args in
+    refused at.buf.now at.esi.now 4 (number-reserved at.buf.now at.esi.now (sym c.is_reserved.ensures ∙ c.if-is_reserved.true)) (omega arith)
 
-returns-2 : tie.Need-returns-2 invariant-loop decreases-loop
+returns-2 : tie.Need-returns-then-buf-lt-TEXT_LENGTH invariant-loop decreases-loop
 returns-2 c =
-    let at = c.before.before.before.before.before.args in
-    refused at.buf.now at.esi.now 14 (number_short at.buf.now at.esi.now (sym c.before.before.is-reserved.ensures ∙ c.before.if1.false) (omega arith)) (omega arith)
+    let at = c.args in
+    refused at.buf.now at.esi.now 14 (number_short at.buf.now at.esi.now (sym c.is_reserved.ensures ∙ c.if-is_reserved.false) (omega arith)) (omega arith)
 
-loop-holds : tie.Need-loop-init invariant-loop decreases-loop
+loop-holds : tie.Need-loop-offset-init invariant-loop decreases-loop
 loop-holds c = (search rules, refl, refl)
 
-text-at-requires : tie.Need-text-at-requires invariant-loop decreases-loop
+text-at-requires : tie.Need-text_at-requires invariant-loop decreases-loop
 text-at-requires c κs =
     let else = c.before.before.before in
-    (length-not-reserved _ (sym else.before.is-reserved.ensures ∙ else.if1.false), omega arith)
+    (length-not-reserved _ (sym else.is_reserved.ensures ∙ else.if-is_reserved.false), omega arith)
 
-loop-again : tie.Need-loop-preserved invariant-loop decreases-loop
+loop-again : tie.Need-loop-offset-preserved invariant-loop decreases-loop
 loop-again c =
     let at = c.before.before in
-    let ar = c.before.before.before.before.before.before.before.before.args in
+    let ar = c.args in
     let d = ar.buf.now in
     let s = ar.esi.now in
-    let i = at.loop.offset in
+    let i = at.loop-offset.offset in
     let char = c.text_at.ensures ∙ sym (get_d-text s i (omega arith)) in
-    (omega arith, length-set at.loop.buf i _ ∙ at.loop.invariant.1, rw (at.loop.invariant.2, char) (front-next d (text_of s) i (omega arith) (rw (length-text s) (omega arith))))
+    (omega arith, length-set at.loop-offset.buf i _ ∙ at.loop-offset.invariant.1, rw (at.loop-offset.invariant.2, char) (front-next d (text_of s) i (omega arith) (rw (length-text s) (omega arith))))
 
-same_length : tie.Need-same-length invariant-loop decreases-loop
-same_length c = c.before.loop.invariant.1
+same_length : tie.Need-shape_of-buf invariant-loop decreases-loop
+same_length c = c.loop-offset.invariant.1
 
-returns-3 : tie.Need-returns-3 invariant-loop decreases-loop
+returns-3 : tie.Need-returns invariant-loop decreases-loop
 returns-3 c =
-    let ar = c.before.before.before.before.before.before.before.args in
+    let ar = c.args in
     let d = ar.buf.now in
     let s = ar.esi.now in
-    let all : c.before.loop.offset ≡ 29 = omega arith in
+    let all : c.loop-offset.offset ≡ 29 = omega arith in
     let else = c.before.before.before in
-    written d s c.before.loop.buf (c.before.loop.invariant.2 ∙ rw all (front-all d (text_of s) 29 (length-text s)))
-    (λ i. omega (arith, else.before.before.shared-slice-known.given i)) (sym else.before.is-reserved.ensures ∙ else.if1.false) (omega arith)
+    written d s c.loop-offset.buf (c.loop-offset.invariant.2 ∙ rw all (front-all d (text_of s) 29 (length-text s)))
+    (λ i. omega (arith, else.shared_slice_known-1.given i)) (sym else.is_reserved.ensures ∙ else.if-is_reserved.false) (omega arith)
 
-pub write-text-spec : {M : Type 1} → statement M
-write-text-spec =
+pub write_text_spec : {M : Type 1} → statement M
+write_text_spec =
     tie.close
     (tie.spec
     invariant-loop

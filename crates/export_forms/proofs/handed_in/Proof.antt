@@ -1,13 +1,16 @@
 -- `handed_in` meets its contract: one case for each family. Assumes nothing.
-use borrow.Author.Rules.{rules}
 use Rattle.export_forms.proofs.handed_in.Statement.{statement}
 use Rattle.export_forms.proofs.handed_in.Tie as tie
 
-returns : tie.Need-returns
-returns c = rw c.if1.true
+returns : tie.Need-returns-then-v6
+returns c = rw c.if-v6.true
 
-returns-2 : tie.Need-returns-2
-returns-2 c = rw c.if1.false
+returns-2 : tie.Need-returns
+returns-2 c = rw c.if-v6.false
 
-pub handed-in-spec : {M : Type 1} → statement M
-handed-in-spec = tie.close (tie.spec returns returns-2)
+pub handed_in_spec : {M : Type 1} → statement M
+handed_in_spec =
+    tie.close
+    (tie.spec
+    returns
+    returns-2)

@@ -15,22 +15,22 @@ use Rattle.flow_calls.proofs.elect_any_source.Tie as tie
 returns : tie.Need-returns
 unfolding segment_in
 returns c =
-    let start = c.before.before.before.before.before.before in
+    let start = c in
     let a = start.args in
-    let told = rw (settings-part a.s.now start.requires) at c.elect-any-source.ensures in
+    let told = rw (settings-part a.s.now start.requires) at c.elect_any_source.ensures in
     let s = segment_in a.s.now in
     let ready = ready_in a.ready.now in
     let q = by_any_source a.group.now in
     let call = elect-replies s q a.tag ready told.0 in
     (told.0, (told.1, (told.2, (told.3, (call, elect-follows s q a.tag ready call)))))
 
-pub elect-any-source-spec : {M : Type 1} → statement M
-elect-any-source-spec =
+pub elect_any_source_spec : {M : Type 1} → statement M
+elect_any_source_spec =
     tie.close
     (tie.spec
-    (λ c. let s = c.before.before.before.before in sym (length-take-le 388 s.args.s.now (omega (arith, length-state s.args.s.now s.requires))))
-    (λ c. let s = c.before.before.before.before in omega (arith, length-state s.args.s.now s.requires))
-    (λ c. let s = c.before.before.before.before in omega (arith, length-state s.args.s.now s.requires))
+    (λ c. let s = c in sym (length-take-le 388 s.args.s.now (omega (arith, length-state s.args.s.now s.requires))))
+    (λ c. let s = c in omega (arith, length-state s.args.s.now s.requires))
+    (λ c. let s = c in omega (arith, length-state s.args.s.now s.requires))
     (λ c. search rules)
-    (λ c κs. let s = c.before.before.before.before.before in (s.requires.table, valid-settings-part s.args.s.now s.requires))
+    (λ c κs. let s = c in (s.requires.table, valid-settings-part s.args.s.now s.requires))
     returns)

@@ -7,19 +7,26 @@ use Rattle.flow_election.proofs.Laws.{whole_words}
 use Rattle.flow_election.proofs.elect_any_source.Statement.{statement}
 use Rattle.flow_election.proofs.elect_any_source.Tie as tie
 
-elect-query-requires : tie.Need-elect-query-requires
+elect-query-requires : tie.Need-elect_query-requires
 elect-query-requires c κs =
     let tested = c.before in
     let start = tested.before.before.before.before.before.before in
-    (start.requires.0, start.requires.1, λ t. (refl, whole_words (length start.args.group.now) (sym tested.is-address-length.ensures ∙ t)))
+    (start.requires.0, start.requires.1, λ t. (refl, whole_words (length start.args.group.now) (sym tested.is_address_length-right.ensures ∙ t)))
 
 returns : tie.Need-returns
 unfolding right_lengths flow_octets number_for
 returns c =
     let tested = c.before.before in
     let known = tested.before in
-    let a = known.before.before.before.before.before.args in
-    c.elect-query.ensures (by_any_source a.group.now) (search (known, sym)) (sym tested.is-address-length.ensures) refl
+    let a = known.args in
+    c.elect_query.ensures (by_any_source a.group.now) (search (known, sym)) (sym tested.is_address_length-right.ensures) refl
 
-pub elect-any-source-spec : {M : Type 1} → statement M
-elect-any-source-spec = tie.close (tie.spec (λ c κs. search rules) (λ c κs. search rules) (λ c. search rules) elect-query-requires returns)
+pub elect_any_source_spec : {M : Type 1} → statement M
+elect_any_source_spec =
+    tie.close
+    (tie.spec
+    (λ c κs. search rules)
+    (λ c κs. search rules)
+    (λ c. search rules)
+    elect-query-requires
+    returns)

@@ -8,13 +8,13 @@ use Rattle.flow_election.proofs.Laws.{both-whole-words}
 use Rattle.flow_election.proofs.elect_source_group.Statement.{statement}
 use Rattle.flow_election.proofs.elect_source_group.Tie as tie
 
-elect-query-requires : tie.Need-elect-query-requires
+elect-query-requires : tie.Need-elect_query-requires
 elect-query-requires c κs =
     let start = c.before.before.before.before.before.before.before in (
       start.requires.0,
       start.requires.1,
       λ t.
-          let words = both-whole-words (length start.args.source.now) (length start.args.group.now) (sym c.are-lengths.ensures ∙ t) in
+          let words = both-whole-words (length start.args.source.now) (length start.args.group.now) (sym c.are_lengths-right.ensures ∙ t) in
           (omega arith, omega arith),
     )
 
@@ -22,8 +22,14 @@ returns : tie.Need-returns
 unfolding right_lengths flow_octets number_for
 returns c =
     let known = c.before.before in
-    let a = known.before.before.before.before.before.before.args in
-    c.elect-query.ensures (by_source_group a.source.now a.group.now) (search (known, sym)) (sym c.before.are-lengths.ensures) refl
+    let a = known.args in
+    c.elect_query.ensures (by_source_group a.source.now a.group.now) (search (known, sym)) (sym c.are_lengths-right.ensures) refl
 
-pub elect-source-group-spec : {M : Type 1} → statement M
-elect-source-group-spec = tie.close (tie.spec (λ c κs. search rules) (λ c κs. search rules) elect-query-requires returns)
+pub elect_source_group_spec : {M : Type 1} → statement M
+elect_source_group_spec =
+    tie.close
+    (tie.spec
+    (λ c κs. search rules)
+    (λ c κs. search rules)
+    elect-query-requires
+    returns)

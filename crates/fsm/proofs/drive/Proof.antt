@@ -4,19 +4,25 @@ use Rattle.fsm.proofs.Laws.{driven-up, driven-else}
 use Rattle.fsm.proofs.drive.Statement.{statement}
 use Rattle.fsm.proofs.drive.Tie as tie
 
-returns : tie.Need-returns
+returns : tie.Need-returns-then-starts_wait
 returns c =
     let asked = c.before in
     let s = asked.before.before in
-    driven-up s.args.m s.args.e s.args.now asked.before.next.result asked.before.next.ensures
-    (sym asked.starts-wait.ensures ∙ c.if1.true)
+    driven-up s.args.m s.args.e s.args.now asked.next-t.result asked.next-t.ensures
+    (sym asked.starts_wait.ensures ∙ c.if-starts_wait.true)
 
-returns-2 : tie.Need-returns-2
+returns-2 : tie.Need-returns
 returns-2 c =
     let asked = c.before in
     let s = asked.before.before in
-    driven-else s.args.m s.args.e s.args.now asked.before.next.result asked.before.next.ensures
-    (sym asked.starts-wait.ensures ∙ c.if1.false)
+    driven-else s.args.m s.args.e s.args.now asked.next-t.result asked.next-t.ensures
+    (sym asked.starts_wait.ensures ∙ c.if-starts_wait.false)
 
-pub drive-spec : {M : Type 1} → statement M
-drive-spec = tie.close (tie.spec (λ c κs. search rules) (λ c κs. search rules) returns returns-2)
+pub drive_spec : {M : Type 1} → statement M
+drive_spec =
+    tie.close
+    (tie.spec
+    (λ c κs. search rules)
+    (λ c κs. search rules)
+    returns
+    returns-2)

@@ -6,16 +6,21 @@ use Rattle.fsm.proofs.Lists.{claimed}
 use Rattle.fsm.proofs.make.Statement.{statement}
 use Rattle.fsm.proofs.make.Tie as tie
 
-returns : tie.Need-returns
-returns c = (unmade-zero c.before.args.wait c.if1.true, claimed (in_init 0))
+returns : tie.Need-returns-then-wait-eq0
+returns c = (unmade-zero c.args.wait c.if-wait-eq0.true, claimed (in_init 0))
 
-returns-2 : tie.Need-returns-2
-returns-2 c = (unmade-long c.before.before.args.wait (omega (arith, c.if2.true)), claimed (in_init 0))
+returns-2 : tie.Need-returns-then-wait-gt-MAX_WAIT
+returns-2 c = (unmade-long c.args.wait (omega (arith, c.if-wait-gt-MAX_WAIT.true)), claimed (in_init 0))
 
-returns-3 : tie.Need-returns-3
+returns-3 : tie.Need-returns
 returns-3 c =
-    let w = c.before.before.args.wait in
-    (made w c.before.if1.false (omega (arith, c.if2.false)), claimed (in_init w))
+    let w = c.args.wait in
+    (made w c.if-wait-eq0.false (omega (arith, c.if-wait-gt-MAX_WAIT.false)), claimed (in_init w))
 
 pub make_spec : {M : Type 1} → statement M
-make_spec = tie.close (tie.spec returns returns-2 returns-3)
+make_spec =
+    tie.close
+    (tie.spec
+    returns
+    returns-2
+    returns-3)

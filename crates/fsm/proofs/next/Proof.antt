@@ -5,21 +5,21 @@ use Rattle.fsm.proofs.Laws.{cells, cell, rows, columns}
 use Rattle.fsm.proofs.next.Statement.{statement}
 use Rattle.fsm.proofs.next.Tie as tie
 
-index-1-result : tie.Need-bounds-1-result
-index-1-result c = rw c.before.state-number.ensures (rows c.before.before.args.s)
+index-1-result : tie.Need-bounds-row
+index-1-result c = rw c.state_number-row.ensures (rows c.args.s)
 
-index-2-result : tie.Need-bounds-2-result
-index-2-result c = rw c.event-number.ensures (columns c.before.before.args.e)
+index-2-result : tie.Need-bounds-column
+index-2-result c = rw c.event_number-column.ensures (columns c.args.e)
 
 returns : tie.Need-returns
 unfolding next_state
 returns c =
     let called = c.before in
-    ap₂ (λ i j. get_or (get_or cells i _) j _) called.before.state-number.ensures called.event-number.ensures
-    ∙ cell called.before.before.args.s called.before.before.args.e _ _
+    ap₂ (λ i j. get_or (get_or cells i _) j _) called.state_number-row.ensures called.event_number-column.ensures
+    ∙ cell called.args.s called.args.e _ _
 
-pub next-spec : {M : Type 1} → statement M
-next-spec =
+pub next_spec : {M : Type 1} → statement M
+next_spec =
     tie.close
     (tie.spec
     (λ c κs. search rules)

@@ -5,21 +5,28 @@ use Rattle.fsm.proofs.Arms.{not-init, not-up}
 use Rattle.fsm.proofs.starts_wait.Statement.{statement}
 use Rattle.fsm.proofs.starts_wait.Tie as tie
 
-returns : tie.Need-returns
+returns : tie.Need-returns-in-EsUp
 unfolding starts
-returns c = sym (ap₂ starts c.before.before.enum_told.given.1 c.enum-told2.given.1)
+returns c = sym (ap₂ starts c.in-Init.is c.in-EsUp.is)
 
-returns-2 : tie.Need-returns-2
+returns-2 : tie.Need-returns-in_default-e
 unfolding starts
 returns-2 c =
-    let s = c.before.before.before in
-    sym (ap (λ x. starts x s.args.e) c.before.enum_told.given.1 ∙ not-up s.args.e c.match2.keys2)
+    let s = c.before.before in
+    sym (ap (λ x. starts x s.args.e) c.in-Init.is ∙ not-up s.args.e c.in_default-e.in_default-e-own.keys2)
 
-returns-3 : tie.Need-returns-3
+returns-3 : tie.Need-returns-in_default
 unfolding starts
 returns-3 c =
     let s = c.before in
-    sym (ap (λ b. b && eqb (event_number s.args.e) 0) (not-init s.args.s c.match.keys2))
+    sym (ap (λ b. b && eqb (event_number s.args.e) 0) (not-init s.args.s c.in_default.in_default-own.keys2))
 
-pub starts-wait-spec : {M : Type 1} → statement M
-starts-wait-spec = tie.close (tie.spec (λ c. search rules) (λ c. search rules) returns returns-2 returns-3)
+pub starts_wait_spec : {M : Type 1} → statement M
+starts_wait_spec =
+    tie.close
+    (tie.spec
+    (λ c. search rules)
+    (λ c. search rules)
+    returns
+    returns-2
+    returns-3)

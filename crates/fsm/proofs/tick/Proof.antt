@@ -4,16 +4,22 @@ use Rattle.fsm.proofs.Laws.{ticked, unticked}
 use Rattle.fsm.proofs.tick.Statement.{statement}
 use Rattle.fsm.proofs.tick.Tie as tie
 
-returns : tie.Need-returns
+returns : tie.Need-returns-then-is_due
 returns c =
     let tested = c.before in
     let s = tested.before.before in
-    c.drive.ensures ∙ ticked s.args.m s.args.now (sym tested.before.is-due.ensures ∙ tested.if1.true)
+    c.drive.ensures ∙ ticked s.args.m s.args.now (sym tested.is_due.ensures ∙ tested.if-is_due.true)
 
-returns-2 : tie.Need-returns-2
+returns-2 : tie.Need-returns
 returns-2 c =
     let s = c.before.before in
-    unticked s.args.m s.args.now (sym c.before.is-due.ensures ∙ c.if1.false)
+    unticked s.args.m s.args.now (sym c.is_due.ensures ∙ c.if-is_due.false)
 
-pub tick-spec : {M : Type 1} → statement M
-tick-spec = tie.close (tie.spec (λ c κs. search rules) (λ c κs. search rules) returns returns-2)
+pub tick_spec : {M : Type 1} → statement M
+tick_spec =
+    tie.close
+    (tie.spec
+    (λ c κs. search rules)
+    (λ c κs. search rules)
+    returns
+    returns-2)

@@ -6,8 +6,12 @@ use Rattle.fsm.proofs.waited.Tie as tie
 
 returns : tie.Need-returns
 returns c =
-    let e = c.wrapping-sub-u32.ensures in
-    (wrapped c.before.args.now c.before.args.since c.wrapping-sub-u32.result c.wrapping-sub-u32.type-inv c.before.ranges.since.fits e, e)
+    let e = c.wrapping_sub_u32.ensures in
+    (wrapped c.args.now c.args.since c.wrapping_sub_u32.result c.wrapping_sub_u32.type_inv c.ranges.since.fits e, e)
 
-pub waited-spec : {M : Type 1} → statement M
-waited-spec = tie.close (tie.spec (λ c κs. search rules) returns)
+pub waited_spec : {M : Type 1} → statement M
+waited_spec =
+    tie.close
+    (tie.spec
+    (λ c κs. search rules)
+    returns)

@@ -13,12 +13,12 @@ returns : tie.Need-returns
 unfolding crc32_of
 returns c =
     let words = c.before.before in
-    let s = words.before.before.before.args.s.now in
+    let s = words.args.s.now in
     let whole = length s / 4 * 4 in
-    ap (λ (n : ℕ). bit_xor n all_ones) (c.crc-octets.ensures ∙ ap (λ (n : ℕ). crc_over n (take (length s - whole) (drop whole s))) words.crc-words.ensures ∙ crc_over-slices all_ones s whole)
+    ap (λ (n : ℕ). bit_xor n all_ones) (c.crc_octets.ensures ∙ ap (λ (n : ℕ). crc_over n (take (length s - whole) (drop whole s))) words.crc_words-words.ensures ∙ crc_over-slices all_ones s whole)
 
-pub crc32-spec : {M : Type 1} → statement M
-crc32-spec =
+pub crc32_spec : {M : Type 1} → statement M
+crc32_spec =
     tie.close
     (tie.spec
     (λ c. search rules)

@@ -12,8 +12,13 @@ above n = omega arith
 
 returns : tie.Need-returns
 returns c =
-    let mixed = c.before.args.mixed in
-    rw (c.after-octet.ensures, above mixed) (sym (crc_bits-octet mixed))
+    let mixed = c.args.mixed in
+    rw (c.after_octet.ensures, above mixed) (sym (crc_bits-octet mixed))
 
-pub crc-step-spec : {M : Type 1} → statement M
-crc-step-spec = tie.close (tie.spec (λ c. search rules) (λ c κs. search rules) returns)
+pub crc_step_spec : {M : Type 1} → statement M
+crc_step_spec =
+    tie.close
+    (tie.spec
+    (λ c. search rules)
+    (λ c κs. search rules)
+    returns)

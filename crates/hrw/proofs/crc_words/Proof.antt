@@ -12,34 +12,34 @@ use Rattle.hrw.proofs.Laws.{crc_over-four, crc_over-end}
 use Rattle.hrw.proofs.crc_words.Statement.{statement}
 use Rattle.hrw.proofs.crc_words.Tie as tie
 
-abbrev invariant-loop : tie.invariant-loop
+abbrev invariant-loop : tie.invariant-loop-i
 invariant-loop state s r₀ i₀ r i = (i ≤ length s) × (i % 4 ≡ 0) × (crc_over r (drop i s) ≡ crc_over state s)
 
-abbrev decreases-loop : tie.decreases-loop
+abbrev decreases-loop : tie.decreases-loop-i
 decreases-loop state s r₀ i₀ r i = length s - i
 
-loop-holds : tie.Need-loop-init invariant-loop decreases-loop
+loop-holds : tie.Need-loop-i-init invariant-loop decreases-loop
 loop-holds c = (omega arith, refl, refl)
 
-loop-again : tie.Need-loop-preserved invariant-loop decreases-loop
+loop-again : tie.Need-loop-i-preserved invariant-loop decreases-loop
 loop-again c =
     let taken = c.before in
     let turn = taken.before.before.before.before.before.before in
     let known = turn.before in
-    let s = known.before.args.s.now in
-    let l = turn.loop in
-    let octets = every-place (λ (x : ℕ). x < 256) s 0 (λ j _. (known.shared-slice-known.given j).fits) in
-    let word = c.crc-word.ensures ∙ ap (λ (w : ℕ). crc_bits 32 (bit_xor l.r w)) (low-four-at l.i _ s (omega arith) taken.u32-of.ensures) in
+    let s = known.args.s.now in
+    let l = turn.loop-i in
+    let octets = every-place (λ (x : ℕ). x < 256) s 0 (λ j _. (known.shared_slice_known-1.given j).fits) in
+    let word = c.crc_word-r.ensures ∙ ap (λ (w : ℕ). crc_bits 32 (bit_xor l.r w)) (low-four-at l.i _ s (omega arith) taken.u32_of.ensures) in
     (omega arith, omega arith, ap (λ (r : ℕ). crc_over r (drop (l.i + 4) s)) word ∙ sym (crc_over-four l.r s l.i octets (omega arith)) ∙ l.invariant.2)
 
 returns : tie.Need-returns invariant-loop decreases-loop
 returns c =
     let turn = c.before in
     let start = turn.before.before in
-    sym (crc_over-end turn.loop.r start.args.s.now turn.loop.i (omega (arith, start.requires))) ∙ turn.loop.invariant.2
+    sym (crc_over-end turn.loop-i.r start.args.s.now turn.loop-i.i (omega (arith, start.requires))) ∙ turn.loop-i.invariant.2
 
-pub crc-words-spec : {M : Type 1} → statement M
-crc-words-spec =
+pub crc_words_spec : {M : Type 1} → statement M
+crc_words_spec =
     tie.close
     (tie.spec
     invariant-loop

@@ -6,7 +6,13 @@ use Rattle.hrw.proofs.digest.Tie as tie
 
 returns : tie.Need-returns
 unfolding digest_of flow_digest_of
-returns c = c.flow-digest.ensures
+returns c = c.flow_digest.ensures
 
-pub digest-spec : {M : Type 1} → statement M
-digest-spec = tie.close (tie.spec (λ c. search rules) (λ c. search rules) (λ c κs. search rules) returns)
+pub digest_spec : {M : Type 1} → statement M
+digest_spec =
+    tie.close
+    (tie.spec
+    (λ c. search rules)
+    (λ c. search rules)
+    (λ c κs. search rules)
+    returns)

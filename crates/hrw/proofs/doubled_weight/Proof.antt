@@ -11,5 +11,13 @@ returns c =
     let answer = weight_of-doubled c.args.address c.args.digest in
     (answer, tie-exactly c.args.address c.args.digest _ (omega (arith, answer)))
 
-pub doubled-weight-spec : {M : Type 1} → statement M
-doubled-weight-spec = tie.close (tie.spec (λ c. search rules) (λ c. search rules) (λ c. search rules) (λ c. search rules) (λ c. search rules) returns)
+pub doubled_weight_spec : {M : Type 1} → statement M
+doubled_weight_spec =
+    tie.close
+    (tie.spec
+    (λ c. search rules)
+    (λ c. search rules)
+    (λ c. search rules)
+    (λ c. search rules)
+    (λ c. search rules)
+    returns)

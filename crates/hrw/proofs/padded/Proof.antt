@@ -18,25 +18,25 @@ returns c =
     let known = made.before in
     let start = known.before in
     let a = start.args in
-    let octets = every-place (λ (x : ℕ). x < 256) a.esi.now 0 (λ j _. (known.shared-slice-known.given j).fits) in (
-      padded-words a.state a.tag word.low-four.result _ a.esi.now start.ranges.state.fits start.requires octets made.of-u32.ensures word.low-four.ensures
-          c.before.before.before.between.ensures
-          (c.before.before.between2.ensures ∙ ap (halves _) first.low-four2.ensures)
-          (c.before.between3.ensures ∙ ap₂ halves first.low-four2.ensures second.low-four3.ensures)
-          (c.between4.ensures ∙ ap₂ halves second.low-four3.ensures two.low-two.ensures),
+    let octets = every-place (λ (x : ℕ). x < 256) a.esi.now 0 (λ j _. (known.shared_slice_known-1.given j).fits) in (
+      padded-words a.state a.tag word.low_four.result _ a.esi.now start.ranges.state.fits start.requires octets made.of_u32-head.ensures word.low_four.ensures
+          c.between.ensures
+          (c.between-2.ensures ∙ ap (halves _) first.low_four-a.ensures)
+          (c.between-3.ensures ∙ ap₂ halves first.low_four-a.ensures second.low_four-b.ensures)
+          (c.between-4.ensures ∙ ap₂ halves second.low_four-b.ensures two.low_two-c.ensures),
       (start.ranges.state.fits, octets),
     )
 
-pub padded-spec : {M : Type 1} → statement M
-padded-spec =
+pub padded_spec : {M : Type 1} → statement M
+padded_spec =
     tie.close
     (tie.spec
     (λ c κs. search rules)
     (λ c. search rules)
     (λ c κs. search rules)
-    (λ c κs. omega (arith, c.before.before.before.before.requires))
-    (λ c κs. omega (arith, c.before.before.before.before.before.requires))
-    (λ c κs. omega (arith, c.before.before.before.before.before.before.requires))
+    (λ c κs. omega (arith, c.requires))
+    (λ c κs. omega (arith, c.requires))
+    (λ c κs. omega (arith, c.requires))
     (λ c κs. search rules)
     (λ c κs. search rules)
     (λ c κs. search rules)

@@ -4,17 +4,24 @@ use Rattle.judgement.proofs.Laws.{announcement-short, announcement-long, announc
 use Rattle.judgement.proofs.announcement.Statement.{statement}
 use Rattle.judgement.proofs.announcement.Tie as tie
 
-returns : tie.Need-returns
-returns c = announcement-short _ c.if1.true
+returns : tie.Need-returns-then-payload-lt-LEAST_ROUTE
+returns c = announcement-short _ c.if-payload-lt-LEAST_ROUTE.true
 
-returns-2 : tie.Need-returns-2
-returns-2 c = announcement-long _ c.if2.true
+returns-2 : tie.Need-returns-then-payload-ge-MOST_ROUTE
+returns-2 c = announcement-long _ c.if-payload-ge-MOST_ROUTE.true
 
-returns-3 : tie.Need-returns-3
-returns-3 c = announcement-six _ (omega arith) c.if3.true
+returns-3 : tie.Need-returns-then-payload
+returns-3 c = announcement-six _ (omega arith) c.if-payload.true
 
-returns-4 : tie.Need-returns-4
-returns-4 c = announcement-four _ (omega arith) c.if3.false
+returns-4 : tie.Need-returns
+returns-4 c = announcement-four _ (omega arith) c.if-payload.false
 
-pub announcement-spec : {M : Type 1} → statement M
-announcement-spec = tie.close (tie.spec returns returns-2 (λ c. omega arith) returns-3 returns-4)
+pub announcement_spec : {M : Type 1} → statement M
+announcement_spec =
+    tie.close
+    (tie.spec
+    returns
+    returns-2
+    (λ c. omega arith)
+    returns-3
+    returns-4)

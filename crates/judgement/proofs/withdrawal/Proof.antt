@@ -4,11 +4,16 @@ use borrow.Author.Rules.{rules}
 use Rattle.judgement.proofs.withdrawal.Statement.{statement}
 use Rattle.judgement.proofs.withdrawal.Tie as tie
 
-returns : tie.Need-returns
-returns c = withdrawal-bad _ _ _ c.before.size.ensures c.if1.true
+returns : tie.Need-returns-then-payload-size
+returns c = withdrawal-bad _ _ _ c.size.ensures c.if-payload-size.true
 
-returns-2 : tie.Need-returns-2
-returns-2 c = withdrawal-right _ _ _ c.before.size.ensures c.if1.false
+returns-2 : tie.Need-returns
+returns-2 c = withdrawal-right _ _ _ c.size.ensures c.if-payload-size.false
 
-pub withdrawal-spec : {M : Type 1} → statement M
-withdrawal-spec = tie.close (tie.spec (λ c κs. search rules) returns returns-2)
+pub withdrawal_spec : {M : Type 1} → statement M
+withdrawal_spec =
+    tie.close
+    (tie.spec
+    (λ c κs. search rules)
+    returns
+    returns-2)

@@ -14,5 +14,9 @@ returns c =
     let start = c.before.before in
     ap (λ (k : ℕ). k / 2) c.kind_at.ensures ∙ kind-algorithm (get_or (table_in start.args.t.now).entries start.args.at no_entry)
 
-pub algorithm-at-spec : {M : Type 1} → statement M
-algorithm-at-spec = tie.close (tie.spec (λ c κs. search rules) returns)
+pub algorithm_at_spec : {M : Type 1} → statement M
+algorithm_at_spec =
+    tie.close
+    (tie.spec
+    (λ c κs. search rules)
+    returns)

@@ -10,7 +10,12 @@ returns : tie.Need-returns
 returns c =
     let read = c.before in
     let start = read.before.before in
-    c.kind-of.ensures ∙ ap (λ (w : ℕ). w / 131072) read.attributes-at.ensures ∙ attributes-kind start.args.t.now start.requires.0 start.args.at start.requires.1
+    c.kind_of.ensures ∙ ap (λ (w : ℕ). w / 131072) read.attributes_at.ensures ∙ attributes-kind start.args.t.now start.requires.0 start.args.at start.requires.1
 
-pub kind-at-spec : {M : Type 1} → statement M
-kind-at-spec = tie.close (tie.spec (λ c κs. search rules) (λ c κs. search rules) returns)
+pub kind_at_spec : {M : Type 1} → statement M
+kind_at_spec =
+    tie.close
+    (tie.spec
+    (λ c κs. search rules)
+    (λ c κs. search rules)
+    returns)

@@ -10,7 +10,11 @@ use Rattle.layout.proofs.standing_at.Tie as tie
 returns : tie.Need-returns
 returns c =
     let start = c.before.before in
-    (ap (λ (w : ℕ). w % 131072) c.attributes-at.ensures ∙ attributes-standing start.args.t.now start.requires.0 start.args.at start.requires.1, omega arith)
+    (ap (λ (w : ℕ). w % 131072) c.attributes_at.ensures ∙ attributes-standing start.args.t.now start.requires.0 start.args.at start.requires.1, omega arith)
 
-pub standing-at-spec : {M : Type 1} → statement M
-standing-at-spec = tie.close (tie.spec (λ c κs. search rules) returns)
+pub standing_at_spec : {M : Type 1} → statement M
+standing_at_spec =
+    tie.close
+    (tie.spec
+    (λ c κs. search rules)
+    returns)

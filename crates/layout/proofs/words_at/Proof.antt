@@ -6,16 +6,16 @@ use Rattle.layout.proofs.Addresses.{four-words}
 use Rattle.layout.proofs.words_at.Statement.{statement}
 use Rattle.layout.proofs.words_at.Tie as tie
 
-shared-slice-read-t7 : tie.Need-shared-slice-read-t7
+shared-slice-read-t7 : tie.Need-bounds-t-start
 shared-slice-read-t7 c = let start = c.before in omega (arith, length-valid start.args.t.now start.requires.0, start.requires.0.sound.short, start.requires.1)
 
-shared-slice-read-t11 : tie.Need-shared-slice-read-t11
+shared-slice-read-t11 : tie.Need-bounds-t-start-2
 shared-slice-read-t11 c = let start = c.before.before in omega (arith, length-valid start.args.t.now start.requires.0, start.requires.0.sound.short, start.requires.1)
 
-shared-slice-read-t15 : tie.Need-shared-slice-read-t15
+shared-slice-read-t15 : tie.Need-bounds-t-start-3
 shared-slice-read-t15 c = let start = c.before.before.before in omega (arith, length-valid start.args.t.now start.requires.0, start.requires.0.sound.short, start.requires.1)
 
-shared-slice-read-t19 : tie.Need-shared-slice-read-t19
+shared-slice-read-t19 : tie.Need-bounds-t-start-4
 shared-slice-read-t19 c = let start = c.before.before.before.before in omega (arith, length-valid start.args.t.now start.requires.0, start.requires.0.sound.short, start.requires.1)
 
 returns : tie.Need-returns
@@ -23,8 +23,8 @@ returns c =
     let start = c.before.before.before.before in
     four-words start.args.t.now start.requires.0 start.args.at start.requires.1
 
-pub words-at-spec : {M : Type 1} → statement M
-words-at-spec =
+pub words_at_spec : {M : Type 1} → statement M
+words_at_spec =
     tie.close
     (tie.spec
     (λ c. search rules)

@@ -1,7 +1,7 @@
 -- `log_length` meets its contract: the first record, and one for each entry, by its family. Assumes nothing.
 use Prim.Native.Nat.{◌+◌, ◌*◌, ◌-◌, ◌≤◌, ◌<◌}
 use native.Mathlib.Omega.{arith}
-use mathlib.Core.Path.{◌≡◌, refl, ap, sym, ◌∙◌}
+use mathlib.Core.Path.{◌≡◌, ap, sym, ◌∙◌}
 use lib.ListN.{length, get_or, take}
 use borrow.Author.Rules.{rules}
 use Rattle.lists.proofs.Lists.{every_in}
@@ -15,61 +15,61 @@ use Rattle.log_octets.proofs.Laws.{length-next, length-log, entries_none, entrie
 use Rattle.log_octets.proofs.log_length.Statement.{statement}
 use Rattle.log_octets.proofs.log_length.Tie as tie
 
-abbrev invariant-loop : tie.invariant-loop
+abbrev invariant-loop : tie.invariant-loop-i
 invariant-loop t n length₀ i₀ size i = (i ≤ n) × (size ≡ 33 + length (entry_records (table_in t).esi (take i (table_in t).entries))) × (size ≤ 33 + 49 * i)
 
-abbrev decreases-loop : tie.decreases-loop
+abbrev decreases-loop : tie.decreases-loop-i
 decreases-loop t n length₀ i₀ size i = n - i
 
 -- what is known once the length of a record is
-module _ (told : tie.After-record-length invariant-loop decreases-loop) where
-  abbrev at : tie.At-loop invariant-loop decreases-loop
+module _ (told : tie.After-record_length-length invariant-loop decreases-loop) where
+  abbrev at : tie.At-loop-i invariant-loop decreases-loop
   at = told.before.before.before
 
-  abbrev counted : tie.After-count invariant-loop decreases-loop
+  abbrev counted : tie.After-count-n invariant-loop decreases-loop
   counted = at.before
 
   abbrev start : tie.Start invariant-loop decreases-loop
   start = counted.before.before
 
-  less : at.loop.i < length (table_in start.args.t.now).entries
-  less = omega (arith, told.before.before.loop-test.taken, counted.count.ensures)
+  less : at.loop-i.i < length (table_in start.args.t.now).entries
+  less = omega (arith, told.loop-i-test.true, counted.count-n.ensures)
 
-  is_address : IsAddress (get_or (table_in start.args.t.now).entries at.loop.i no_entry).address
-  is_address = (every_in AddressRight (table_in start.args.t.now).entries at.loop.i no_entry start.pre.sound.addresses less).0
+  is_address : IsAddress (get_or (table_in start.args.t.now).entries at.loop-i.i no_entry).address
+  is_address = (every_in AddressRight (table_in start.args.t.now).entries at.loop-i.i no_entry start.requires.sound.addresses less).0
 
-  added : told.record-length.result ≡ record_length (family_of (get_or (table_in start.args.t.now).entries at.loop.i no_entry).address)
-  added = told.record-length.ensures ∙ ap record_length told.before.family-at.ensures
+  added : told.record_length-length.result ≡ record_length (family_of (get_or (table_in start.args.t.now).entries at.loop-i.i no_entry).address)
+  added = told.record_length-length.ensures ∙ ap record_length told.family_at.ensures
 
-  most : told.record-length.result ≤ 49
+  most : told.record_length-length.result ≤ 49
   most = rw added (record-most _ is_address)
 
-  next : at.loop.length + told.record-length.result ≡ 33 + length (entry_records (table_in start.args.t.now).esi (take (at.loop.i + 1) (table_in start.args.t.now).entries))
-  next = omega (arith, at.loop.inv.1, added, length-next (table_in start.args.t.now).esi (table_in start.args.t.now).entries at.loop.i (length-esi (table_in start.args.t.now) start.pre.sound) less is_address)
+  next : at.loop-i.length + told.record_length-length.result ≡ 33 + length (entry_records (table_in start.args.t.now).esi (take (at.loop-i.i + 1) (table_in start.args.t.now).entries))
+  next = omega (arith, at.loop-i.invariant.1, added, length-next (table_in start.args.t.now).esi (table_in start.args.t.now).entries at.loop-i.i (length-esi (table_in start.args.t.now) start.requires.sound) less is_address)
 
-  few : at.loop.i < 64
-  few = omega (arith, less, start.pre.sound.short)
+  few : at.loop-i.i < 64
+  few = omega (arith, less, start.requires.sound.short)
 
 returns : tie.Need-returns invariant-loop decreases-loop
 returns c =
     let at = c.before in
     let counted = at.before in
-    let t = table_in counted.before.before.args.t.now in
-    let all : at.loop.i ≡ length t.entries = omega (arith, at.loop.invariant.0, c.loop-test.false, counted.count.ensures) in
-    at.loop.invariant.1 ∙ ap (λ l. 33 + length l) (entries-all t.esi t.entries at.loop.i all) ∙ sym (length-log t)
+    let t = table_in counted.args.t.now in
+    let all : at.loop-i.i ≡ length t.entries = omega (arith, at.loop-i.invariant.0, c.loop-i-test.false, counted.count-n.ensures) in
+    at.loop-i.invariant.1 ∙ ap (λ l. 33 + length l) (entries-all t.esi t.entries at.loop-i.i all) ∙ sym (length-log t)
 
-pub log-length-spec : {M : Type 1} → statement M
-log-length-spec =
+pub log_length_spec : {M : Type 1} → statement M
+log_length_spec =
     tie.close
     (tie.spec
     invariant-loop
     decreases-loop
     (λ c κs. search rules)
-    (λ c. (omega arith, ap (λ l. 33 + length l) (sym (entries_none (table_in c.before.before.args.t.now).esi (table_in c.before.before.args.t.now).entries)), omega arith))
+    (λ c. (omega arith, ap (λ l. 33 + length l) (sym (entries_none (table_in c.args.t.now).esi (table_in c.args.t.now).entries)), omega arith))
     (λ c κs. search rules)
     (λ c κs. search rules)
-    (λ c. omega (arith, most c, few c, c.before.before.before.loop.invariant.2))
+    (λ c. omega (arith, most c, few c, c.loop-i.invariant.2))
     (λ c. search rules)
     (λ c. search rules)
-    (λ c. (omega arith, next c, omega (arith, most c, c.before.before.before.loop.invariant.2)))
+    (λ c. (omega arith, next c, omega (arith, most c, c.loop-i.invariant.2)))
     returns)

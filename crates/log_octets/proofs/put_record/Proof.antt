@@ -9,10 +9,10 @@ returns c =
     let second = c.before.before in
     let first = second.before.before.before.before in
     let start = first.before.before.before.before.before in
-    record-put _ _ _ _ start.args.at start.args.kind start.requires.0 first.store.ensures second.store2.ensures
+    record-put _ _ _ _ start.args.at start.args.kind start.requires.0 first.store.ensures second.store-2.ensures
 
-pub put-record-spec : {M : Type 1} → statement M
-put-record-spec =
+pub put_record_spec : {M : Type 1} → statement M
+put_record_spec =
     tie.close
     (tie.spec
     (λ c. search rules)

@@ -4,13 +4,17 @@ use Rattle.log_octets.specs.Steps.{record_length}
 use Rattle.log_octets.proofs.record_length.Statement.{statement}
 use Rattle.log_octets.proofs.record_length.Tie as tie
 
-returns : tie.Need-returns
+returns : tie.Need-returns-then-family-eq6
 unfolding record_length
-returns c = rw (eq-eqb _ _ c.if1.true)
+returns c = rw (eq-eqb _ _ c.if-family-eq6.true)
 
-returns-2 : tie.Need-returns-2
+returns-2 : tie.Need-returns
 unfolding record_length
-returns-2 c = rw (ne_eqb _ _ c.if1.false)
+returns-2 c = rw (ne_eqb _ _ c.if-family-eq6.false)
 
-pub record-length-spec : {M : Type 1} → statement M
-record-length-spec = tie.close (tie.spec returns returns-2)
+pub record_length_spec : {M : Type 1} → statement M
+record_length_spec =
+    tie.close
+    (tie.spec
+    returns
+    returns-2)

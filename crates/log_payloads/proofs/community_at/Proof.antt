@@ -1,7 +1,7 @@
 -- `community_at` meets its contract: the word of attributes taken apart, and written by the community's writer. Assumes nothing.
 use Prim.Native.Nat.{◌/◌, ◌%◌, ◌≤◌}
 use native.Mathlib.Omega.{arith}
-use mathlib.Core.Path.{◌≡◌, refl, ap, sym, ◌∙◌}
+use mathlib.Core.Path.{◌≡◌, refl, ap, ◌∙◌}
 use lib.ListN.{get_or}
 use lib.Dec.{eqb}
 use borrow.Author.Rules.{rules}
@@ -13,39 +13,39 @@ use Rattle.log_payloads.proofs.community_at.Statement.{statement}
 use Rattle.log_payloads.proofs.community_at.Tie as tie
 
 -- what is known once both parts of the word are
-module _ (told : tie.After-standing-at) where
+module _ (told : tie.After-standing_at-standing) where
   abbrev start : tie.Start
   start = told.before.before.before
 
   abbrev entry : Entry
   entry = get_or (table_in start.args.t.now).entries start.args.at no_entry
 
-  algorithm-is : told.before.kind_at.result / 2 ≡ entry.algorithm
+  algorithm-is : told.kind_at-kind.result / 2 ≡ entry.algorithm
   unfolding kind_of
-  algorithm-is = ap (◌/ 2) told.before.kind_at.ensures ∙ half entry.algorithm entry.ac_df
+  algorithm-is = ap (◌/ 2) told.kind_at-kind.ensures ∙ half entry.algorithm entry.ac_df
 
-  algorithm-small : told.before.kind_at.result / 2 ≤ 31
-  algorithm-small = rw algorithm-is (every_in EntryRight (table_in start.args.t.now).entries start.args.at no_entry start.pre.0.sound.right start.pre.1).0
+  algorithm-small : told.kind_at-kind.result / 2 ≤ 31
+  algorithm-small = rw algorithm-is (every_in EntryRight (table_in start.args.t.now).entries start.args.at no_entry start.requires.0.sound.right start.requires.1).0
 
-  ac-df-is : eqb (told.before.kind_at.result % 2) 1 ≡ entry.ac_df
+  ac-df-is : eqb (told.kind_at-kind.result % 2) 1 ≡ entry.ac_df
   unfolding kind_of
-  ac-df-is = ap (λ n. eqb (n % 2) 1) told.before.kind_at.ensures ∙ odd entry.algorithm entry.ac_df
+  ac-df-is = ap (λ n. eqb (n % 2) 1) told.kind_at-kind.ensures ∙ odd entry.algorithm entry.ac_df
 
-  preference-is : told.standing-at.result / 2 ≡ entry.preference
+  preference-is : told.standing_at-standing.result / 2 ≡ entry.preference
   unfolding standing_of
-  preference-is = ap (◌/ 2) told.standing-at.ensures.0 ∙ half entry.preference entry.dp
+  preference-is = ap (◌/ 2) told.standing_at-standing.ensures.0 ∙ half entry.preference entry.dp
 
-  dp-is : eqb (told.standing-at.result % 2) 1 ≡ entry.dp
+  dp-is : eqb (told.standing_at-standing.result % 2) 1 ≡ entry.dp
   unfolding standing_of
-  dp-is = ap (λ n. eqb (n % 2) 1) told.standing-at.ensures.0 ∙ odd entry.preference entry.dp
+  dp-is = ap (λ n. eqb (n % 2) 1) told.standing_at-standing.ensures.0 ∙ odd entry.preference entry.dp
 
 returns : tie.Need-returns
 returns c =
     let told = c.before.before.before in
-    community-left _ _ (entry told) _ _ _ _ refl (algorithm-small told) (algorithm-is told) (ac-df-is told) (dp-is told) (preference-is told) c.before.write.ensures.1.0
+    community-left _ _ (entry told) _ _ _ _ refl (algorithm-small told) (algorithm-is told) (ac-df-is told) (dp-is told) (preference-is told) c.write.ensures.1.0
 
-pub community-at-spec : {M : Type 1} → statement M
-community-at-spec =
+pub community_at_spec : {M : Type 1} → statement M
+community_at_spec =
     tie.close
     (tie.spec
     (λ c κs. search rules)

@@ -13,7 +13,7 @@ use Rattle.log_payloads.proofs.payload_at.Statement.{statement}
 use Rattle.log_payloads.proofs.payload_at.Tie as tie
 
 -- what is known once the route's length is
-module _ (told : tie.After-total) where
+module _ (told : tie.After-total-total) where
   abbrev wrote : tie.After-write
   wrote = told.before.before
 
@@ -24,29 +24,29 @@ module _ (told : tie.After-total) where
   entry = get_or (table_in start.args.t.now).entries start.args.at no_entry
 
   right : AddressRight entry
-  right = every_in AddressRight (table_in start.args.t.now).entries start.args.at no_entry start.pre.0.sound.addresses start.pre.1
+  right = every_in AddressRight (table_in start.args.t.now).entries start.args.at no_entry start.requires.0.sound.addresses start.requires.1
 
-  written : wrote.write.last.0 ≡ route_written (replicate 45 0) (replicate 8 0) start.args.t2 entry.address
-  written = wrote.write.ensures.1.0 ∙ ap (route_written (replicate 45 0) (replicate 8 0) start.args.t2) wrote.before.before.before.before.before.address-at.ensures
+  written : wrote.write.new.buf ≡ route_written (replicate 45 0) (replicate 8 0) start.args.esi entry.address
+  written = wrote.write.ensures.1.0 ∙ ap (route_written (replicate 45 0) (replicate 8 0) start.args.esi) wrote.address_at-address.ensures
 
-  small : told.total.result + 8 ≤ 45
-  small = total-small start.args.t2 entry start.pre.3 right (replicate 45 0) wrote.write.last.0 refl written told.total.result told.total.ensures
+  small : told.total-total.result + 8 ≤ 45
+  small = total-small start.args.esi entry start.requires.3 right (replicate 45 0) wrote.write.new.buf refl written told.total-total.result told.total-total.ensures
 
 returns : tie.Need-returns
 returns c =
     let told = c.before.before.before.before in
     let s = start told in
-    let i = s.args.t2 in
+    let i = s.args.esi in
     let e = entry told in
-    let b = (wrote told).write.new.0 in
-    let n = told.total.result in (
-      payload-taken i e s.pre.3 (right told) (replicate 45 0) b refl (written told) n told.total.ensures _ _ (wrote told).before.before.before.before.community-at.ensures c.before.store.ensures,
-      payload-length i e s.pre.3 (right told) (replicate 45 0) b refl (written told) n told.total.ensures,
+    let b = (wrote told).write.new.buf in
+    let n = told.total-total.result in (
+      payload-taken i e s.requires.3 (right told) (replicate 45 0) b refl (written told) n told.total-total.ensures _ _ (wrote told).before.before.before.before.community_at-community.ensures c.store.ensures,
+      payload-length i e s.requires.3 (right told) (replicate 45 0) b refl (written told) n told.total-total.ensures,
       small told,
     )
 
-pub payload-at-spec : {M : Type 1} → statement M
-payload-at-spec =
+pub payload_at_spec : {M : Type 1} → statement M
+payload_at_spec =
     tie.close
     (tie.spec
     (λ c κs. search rules)

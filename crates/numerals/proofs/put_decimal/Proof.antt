@@ -9,14 +9,14 @@ use borrow.Author.Rules.{rules}
 use Rattle.numerals.proofs.put_decimal.Statement.{statement}
 use Rattle.numerals.proofs.put_decimal.Tie as tie
 
-returns-2 : tie.Need-returns-2
+returns-2 : tie.Need-returns
 returns-2 c =
-    let sp = c.before.before.before.before.before.before.before.spell in
-    let l : length (drop sp.result sp.new.0) ≤ 20 - sp.result = simp length-drop (omega (arith, sp.auto.0)) in
-    put_as c.before.before.put-run.ensures (take_all (20 - sp.result) (drop sp.result sp.new.0) l ∙ sp.ensures.1)
+    let sp = c.spell-first in
+    let l : length (drop sp.result sp.new.text) ≤ 20 - sp.result = simp length-drop (omega (arith, sp.auto.text)) in
+    put_as c.put_run.ensures (take_all (20 - sp.result) (drop sp.result sp.new.text) l ∙ sp.ensures.1)
 
-pub put-decimal-spec : {M : Type 1} → statement M
-put-decimal-spec =
+pub put_decimal_spec : {M : Type 1} → statement M
+put_decimal_spec =
     tie.close
     (tie.spec
     (λ c. search rules)

@@ -6,23 +6,23 @@ use borrow.Author.Rules.{rules}
 use Rattle.numerals.proofs.put_small.Statement.{statement}
 use Rattle.numerals.proofs.put_small.Tie as tie
 
-returns : tie.Need-returns
+returns : tie.Need-returns-then-x-lt10
 returns c =
-    let a = c.before.before.before.before.before.before.args in
-    rw (small_one a.x (omega arith)) c.before.before.put-octet.ensures
+    let a = c.args in
+    rw (small_one a.x (omega arith)) c.put_octet.ensures
 
-returns-2 : tie.Need-returns-2
+returns-2 : tie.Need-returns-then-x-lt100
 returns-2 c =
-    let a = c.before.before.before.before.before.before.before.before.args in
-    rw (small-two a.x (omega arith) (omega arith)) c.before.before.put-run.ensures
+    let a = c.args in
+    rw (small-two a.x (omega arith) (omega arith)) c.put_run.ensures
 
-returns-3 : tie.Need-returns-3
+returns-3 : tie.Need-returns
 returns-3 c =
-    let a = c.before.before.before.before.before.before.before.before.args in
-    rw (decimal-three a.x (omega arith) (omega arith)) c.before.before.put-run2.ensures
+    let a = c.args in
+    rw (decimal-three a.x (omega arith) (omega arith)) c.put_run-2.ensures
 
-pub put-small-spec : {M : Type 1} → statement M
-put-small-spec =
+pub put_small_spec : {M : Type 1} → statement M
+put_small_spec =
     tie.close
     (tie.spec
     (λ c. search rules)

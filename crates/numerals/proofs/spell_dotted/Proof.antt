@@ -18,18 +18,18 @@ returns c =
     let o = p1.before.before.before in
     let a = o.args in
     let pieces =
-    put_next p1.put_small.ensures
-    (put_next p2.put-octet.ensures
-    (put_next p3.put-small2.ensures
-    (put_next p4.put-octet2.ensures
-    (put_next p5.put-small3.ensures
-    (put_next p6.put-octet3.ensures (λ _. p7.put-small4.ensures))))))
+    put_next p1.put_small-end.ensures
+    (put_next p2.put_octet-end.ensures
+    (put_next p3.put_small-end-2.ensures
+    (put_next p4.put_octet-end-2.ensures
+    (put_next p5.put_small-end-3.ensures
+    (put_next p6.put_octet-end-3.ensures (λ _. p7.put_small.ensures))))))
     in
     put_all pieces (dotted-parts a.a a.b a.c a.d)
     (omega (arith, length-dotted a.a a.b a.c a.d o.ranges.a.fits o.ranges.b.fits o.ranges.c.fits o.ranges.d.fits, o.requires))
 
-pub spell-dotted-spec : {M : Type 1} → statement M
-spell-dotted-spec =
+pub spell_dotted_spec : {M : Type 1} → statement M
+spell_dotted_spec =
     tie.close
     (tie.spec
     (λ c κs. search rules)

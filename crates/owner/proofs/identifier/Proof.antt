@@ -6,13 +6,13 @@ use Rattle.owner.proofs.Laws.{read}
 use Rattle.owner.proofs.identifier.Statement.{statement}
 use Rattle.owner.proofs.identifier.Tie as tie
 
-first-in : tie.Need-shared-slice-read-of-low
+first-in : tie.Need-bounds-t-385
 first-in c = let start = c.before.before in omega (arith, length-valid start.args.t.now start.requires)
 
-second-in : tie.Need-shared-slice-read-of-low-2
+second-in : tie.Need-bounds-t
 second-in c = let start = c.before.before.before.before in omega (arith, length-valid start.args.t.now start.requires)
 
-third-in : tie.Need-shared-slice-read-of-low-3
+third-in : tie.Need-bounds-t-2
 third-in c = let start = c.before.before.before.before.before.before in omega (arith, length-valid start.args.t.now start.requires)
 
 returns : tie.Need-returns
@@ -20,10 +20,10 @@ returns c =
     let second = c.before.before in
     let first = second.before.before in
     let start = first.before.before.before in
-    read start.args.t.now start.requires _ _ _ first.of_low.ensures second.of-low2.ensures c.of-low3.ensures
+    read start.args.t.now start.requires _ _ _ first.of_low-a.ensures second.of_low-b.ensures c.of_low-c.ensures
 
-pub identifier-spec : {M : Type 1} → statement M
-identifier-spec =
+pub identifier_spec : {M : Type 1} → statement M
+identifier_spec =
     tie.close
     (tie.spec
     first-in

@@ -16,12 +16,12 @@ returns c =
     let t = start.args.t.now in
     let esi = start.args.esi.now in (
       written t _ _ _ start.requires.0
-          ∙ ap (λ l. take 385 t ++ l) (words_of esi _ _ _ c.before.before.low-four.ensures c.before.low-four2.ensures c.low-two.ensures),
-      every-place (λ (x : ℕ). x < 256) esi 0 (λ j _. (known.shared-slice-known.given j).fits),
+          ∙ ap (λ l. take 385 t ++ l) (words_of esi _ _ _ c.low_four.ensures c.low_four-2.ensures c.low_two.ensures),
+      every-place (λ (x : ℕ). x < 256) esi 0 (λ j _. (known.shared_slice_known-1.given j).fits),
     )
 
-pub put-identifier-spec : {M : Type 1} → statement M
-put-identifier-spec =
+pub put_identifier_spec : {M : Type 1} → statement M
+put_identifier_spec =
     tie.close
     (tie.spec
     (λ c κs. search rules)

@@ -8,10 +8,10 @@ use borrow.Author.Rules.{rules}
 use Rattle.payloads.proofs.address_at.Statement.{statement}
 use Rattle.payloads.proofs.address_at.Tie as tie
 
-six : (c : tie.Then1) → c.before.before.args.at + 16 ≤ length c.before.before.args.s.now
-six c = let s = c.before.before in room-six s.args.s.now s.args.at s.args.v6 s.requires c.if1.true
+six : (c : tie.Then-v6) → c.args.at + 16 ≤ length c.args.s.now
+six c = let s = c.before.before in room-six s.args.s.now s.args.at s.args.v6 s.requires c.if-v6.true
 
-returns : tie.Need-returns
+returns : tie.Need-returns-then-v6
 unfolding address_row
 returns c =
     let third = c.before in
@@ -19,17 +19,17 @@ returns c =
     let first = second.before in
     let arm = first.before in
     let s = arm.before.before in
-    address-six s.args.s.now s.args.at s.args.v6 s.requires arm.if1.true _ _ _ _ first.word_at.ensures second.word-at2.ensures third.word-at3.ensures c.word-at4.ensures
+    address-six s.args.s.now s.args.at s.args.v6 s.requires arm.if-v6.true _ _ _ _ first.word_at-w0.ensures second.word_at-w1.ensures third.word_at-w2.ensures c.word_at-w3.ensures
 
-returns-2 : tie.Need-returns-2
+returns-2 : tie.Need-returns
 unfolding address_row
 returns-2 c =
     let arm = c.before in
     let s = arm.before.before in
-    address-four s.args.s.now s.args.at s.args.v6 s.requires arm.if1.false _ c.word-at5.ensures
+    address-four s.args.s.now s.args.at s.args.v6 s.requires arm.if-v6.false _ c.word_at-w.ensures
 
-pub address-at-spec : {M : Type 1} → statement M
-address-at-spec =
+pub address_at_spec : {M : Type 1} → statement M
+address_at_spec =
     tie.close
     (tie.spec
     (λ c κs. omega (arith, six c))
@@ -40,5 +40,5 @@ address-at-spec =
     (λ c. search rules)
     (λ c κs. omega (arith, six c.before.before.before))
     returns
-    (λ c κs. let s = c.before.before in room-four s.args.s.now s.args.at s.args.v6 s.requires c.if1.false)
+    (λ c κs. let s = c.before.before in room-four s.args.s.now s.args.at s.args.v6 s.requires c.if-v6.false)
     returns-2)

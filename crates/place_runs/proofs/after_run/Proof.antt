@@ -4,11 +4,17 @@ use Rattle.place_runs.proofs.Runs.{left-none, left-some}
 use Rattle.place_runs.proofs.after_run.Statement.{statement}
 use Rattle.place_runs.proofs.after_run.Tie as tie
 
-returns : tie.Need-returns
-returns c = left-none c.before.before.args.s _ c.before.before.ranges.s.fits c.before.filled.ensures c.if1.true
+returns : tie.Need-returns-then-low
+returns c = left-none c.args.s _ c.ranges.s.fits c.filled-low.ensures c.if-low.true
 
-returns-2 : tie.Need-returns-2
-returns-2 c = left-some c.before.before.args.s _ c.before.before.ranges.s.fits c.before.filled.ensures c.if1.false
+returns-2 : tie.Need-returns
+returns-2 c = left-some c.args.s _ c.ranges.s.fits c.filled-low.ensures c.if-low.false
 
-pub after-run-spec : {M : Type 1} → statement M
-after-run-spec = tie.close (tie.spec (λ c κs. tt) returns (λ c. search rules) returns-2)
+pub after_run_spec : {M : Type 1} → statement M
+after_run_spec =
+    tie.close
+    (tie.spec
+    (λ c κs. tt)
+    returns
+    (λ c. search rules)
+    returns-2)

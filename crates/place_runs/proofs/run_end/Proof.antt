@@ -6,11 +6,16 @@ use Rattle.place_runs.proofs.Runs.{run_ends}
 use Rattle.place_runs.proofs.run_end.Statement.{statement}
 use Rattle.place_runs.proofs.run_end.Tie as tie
 
-cast-result : tie.Need-overflow-cast-result
+cast-result : tie.Need-overflow_cast-result
 cast-result c = record { fits = lt_of_le_of_lt (trailing_le 64 _) (lit< tt) }
 
 returns : tie.Need-returns
-returns c = run_ends c.before.args.s _ c.before.ranges.s.fits c.filled.ensures
+returns c = run_ends c.args.s _ c.ranges.s.fits c.filled.ensures
 
-pub run-end-spec : {M : Type 1} → statement M
-run-end-spec = tie.close (tie.spec (λ c κs. tt) cast-result returns)
+pub run_end_spec : {M : Type 1} → statement M
+run_end_spec =
+    tie.close
+    (tie.spec
+    (λ c κs. tt)
+    cast-result
+    returns)

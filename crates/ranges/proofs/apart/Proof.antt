@@ -13,50 +13,50 @@ use Rattle.ranges.proofs.Laws.{apart_from, all_found, all-next, all_end}
 use Rattle.ranges.proofs.apart.Statement.{statement}
 use Rattle.ranges.proofs.apart.Tie as tie
 
-abbrev invariant-loop : tie.invariant-loop
+abbrev invariant-loop : tie.invariant-loop-j
 invariant-loop run i n j₀ j = (j ≤ length run / 3) × (all (λ q. not (overlap (get_or (ranges_of run) i []) q)) (drop j (ranges_of run)) ≡ apart_from (ranges_of run) i)
 
-abbrev decreases-loop : tie.decreases-loop
+abbrev decreases-loop : tie.decreases-loop-j
 decreases-loop run i n j₀ j = length run / 3 - j
 
-returns : tie.Need-returns invariant-loop decreases-loop
+returns : tie.Need-returns-then-overlaps invariant-loop decreases-loop
 returns c =
     let turn = c.before.before.before in
     let start = turn.before.before in
     let w = start.args.run.now in
     let i = start.args.i in
-    let j = turn.loop.j in
+    let j = turn.loop-j.j in
     let h : j < length (ranges_of w) = omega (arith, rows-length 3 (length w / 3) w) in
-    all_found (λ q. not (overlap (get_or (ranges_of w) i []) q)) (ranges_of w) [] j (apart_from (ranges_of w) i) turn.loop.invariant.1 h (ap not (sym c.before.overlaps.ensures ∙ c.if1.true))
+    all_found (λ q. not (overlap (get_or (ranges_of w) i []) q)) (ranges_of w) [] j (apart_from (ranges_of w) i) turn.loop-j.invariant.1 h (ap not (sym c.overlaps.ensures ∙ c.if-overlaps.true))
 
-loop-again : tie.Need-loop-preserved invariant-loop decreases-loop
+loop-again : tie.Need-loop-j-preserved invariant-loop decreases-loop
 loop-again c =
     let turn = c.before.before.before in
     let start = turn.before.before in
     let w = start.args.run.now in
     let i = start.args.i in
-    let j = turn.loop.j in
+    let j = turn.loop-j.j in
     let h : j < length (ranges_of w) = omega (arith, rows-length 3 (length w / 3) w) in
-    (omega arith, all-next (λ q. not (overlap (get_or (ranges_of w) i []) q)) (ranges_of w) [] j (apart_from (ranges_of w) i) turn.loop.invariant.1 h (ap not (sym c.before.overlaps.ensures ∙ c.if1.false)))
+    (omega arith, all-next (λ q. not (overlap (get_or (ranges_of w) i []) q)) (ranges_of w) [] j (apart_from (ranges_of w) i) turn.loop-j.invariant.1 h (ap not (sym c.overlaps.ensures ∙ c.if-overlaps.false)))
 
-returns-2 : tie.Need-returns-2 invariant-loop decreases-loop
+returns-2 : tie.Need-returns invariant-loop decreases-loop
 returns-2 c =
     let turn = c.before in
     let start = turn.before.before in
     let w = start.args.run.now in
     let i = start.args.i in
-    let h : length (ranges_of w) ≤ turn.loop.j = omega (arith, rows-length 3 (length w / 3) w) in
-    all_end (λ q. not (overlap (get_or (ranges_of w) i []) q)) (ranges_of w) [] turn.loop.j (apart_from (ranges_of w) i) turn.loop.invariant.1 h
+    let h : length (ranges_of w) ≤ turn.loop-j.j = omega (arith, rows-length 3 (length w / 3) w) in
+    all_end (λ q. not (overlap (get_or (ranges_of w) i []) q)) (ranges_of w) [] turn.loop-j.j (apart_from (ranges_of w) i) turn.loop-j.invariant.1 h
 
-pub apart-spec : {M : Type 1} → statement M
-apart-spec =
+pub apart_spec : {M : Type 1} → statement M
+apart_spec =
     tie.close
     (tie.spec
     invariant-loop
     decreases-loop
     (λ c. search rules)
-    (λ c. (omega (arith, c.before.requires), refl))
-    (λ c κs. (c.before.before.before.requires, omega arith))
+    (λ c. (omega (arith, c.requires), refl))
+    (λ c κs. (c.requires, omega arith))
     returns
     (λ c. search rules)
     (λ c. omega arith)

@@ -5,8 +5,14 @@ use lib.ListN.{get_or-eq_default}
 use Rattle.ranges.proofs.number_at.Statement.{statement}
 use Rattle.ranges.proofs.number_at.Tie as tie
 
-returns-2 : tie.Need-returns-2
-returns-2 c = sym (get_or-eq_default c.before.args.run.now 0 c.if1.left)
+returns-2 : tie.Need-returns
+returns-2 c = sym (get_or-eq_default c.args.run.now 0 c.if-i-run.false)
 
-pub number-at-spec : {M : Type 1} → statement M
-number-at-spec = tie.close (tie.spec (λ c. search rules) (λ c. search rules) (λ c. search rules) returns-2)
+pub number_at_spec : {M : Type 1} → statement M
+number_at_spec =
+    tie.close
+    (tie.spec
+    (λ c. search rules)
+    (λ c. search rules)
+    (λ c. search rules)
+    returns-2)

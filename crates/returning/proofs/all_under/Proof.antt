@@ -14,57 +14,57 @@ use Rattle.returning.proofs.Laws.{under, under-end, under-run}
 use Rattle.returning.proofs.all_under.Statement.{statement}
 use Rattle.returning.proofs.all_under.Tie as tie
 
-abbrev invariant-loop : tie.invariant-loop
+abbrev invariant-loop : tie.invariant-loop-left
 invariant-loop t set algorithm differ₀ left₀ differ left =
     let es = (table_in t).entries in
     (left < 2 ^ length es) × ((eqb differ 0 && under es algorithm (places left)) ≡ under es algorithm (places set))
 
-abbrev decreases-loop : tie.decreases-loop
+abbrev decreases-loop : tie.decreases-loop-left
 decreases-loop t set algorithm differ₀ left₀ differ left = left
 
 -- the run ends among the places in use
-differing-requires : tie.Need-differing-requires invariant-loop decreases-loop
+differing-requires : tie.Need-differing-differ-requires invariant-loop decreases-loop
 differing-requires c κs =
     let first = c.before in
     let turn = first.before.before in
     let start = turn.before.before in
     let h = start.requires.0 in
-    let within = turn.loop.invariant.0 in
-    let low = first_under turn.loop.left _ within h.sound.short first.before.loop-test.true in
-    (h, run-under _ (places turn.loop.left) _ _ first.first.ensures c.run-end.ensures (omega (arith, low, first.first.ensures)) (places-under turn.loop.left _ within))
+    let within = turn.loop-left.invariant.0 in
+    let low = first_under turn.loop-left.left _ within h.sound.short first.loop-left-test.true in
+    (h, run-under _ (places turn.loop-left.left) _ _ first.first-from.ensures c.run_end-end.ensures (omega (arith, low, first.first-from.ensures)) (places-under turn.loop-left.left _ within))
 
-loop-again : tie.Need-loop-preserved invariant-loop decreases-loop
+loop-again : tie.Need-loop-left-preserved invariant-loop decreases-loop
 loop-again c =
     let compared = c.before in
     let ended = compared.before in
     let first = ended.before in
     let turn = first.before.before in
     let start = turn.before.before in
-    let l = turn.loop in
+    let l = turn.loop-left in
     let es = (table_in start.args.t.now).entries in
-    let run = stretch first.first.result (ended.run-end.result - first.first.result) in (
-      omega (arith, c.after_run.ensures.1 first.before.loop-test.true, l.invariant.0),
-      under-run es start.args.algorithm (eqb l.differ 0) (places l.left) run (places c.after_run.result) (run-splits (places l.left) _ _ first.first.ensures ended.run-end.ensures c.after_run.ensures.0) compared.differing.ensures ∙ l.invariant.1,
+    let run = stretch first.first-from.result (ended.run_end-end.result - first.first-from.result) in (
+      omega (arith, c.after_run-left.ensures.1 first.loop-left-test.true, l.invariant.0),
+      under-run es start.args.algorithm (eqb l.differ 0) (places l.left) run (places c.after_run-left.result) (run-splits (places l.left) _ _ first.first-from.ensures ended.run_end-end.ensures c.after_run-left.ensures.0) compared.differing-differ.ensures ∙ l.invariant.1,
     )
 
 returns : tie.Need-returns invariant-loop decreases-loop
 returns c =
     let turn = c.before in
     let start = turn.before.before in
-    let l = turn.loop in
-    sym (under-end (table_in start.args.t.now).entries start.args.algorithm (eqb l.differ 0) (places l.left) (ap places c.loop-test.false ∙ places-none)) ∙ l.invariant.1
+    let l = turn.loop-left in
+    sym (under-end (table_in start.args.t.now).entries start.args.algorithm (eqb l.differ 0) (places l.left) (ap places c.loop-left-test.false ∙ places-none)) ∙ l.invariant.1
 
-pub all-under-spec : {M : Type 1} → statement M
-all-under-spec =
+pub all_under_spec : {M : Type 1} → statement M
+all_under_spec =
     tie.close
     (tie.spec
     invariant-loop
     decreases-loop
-    (λ c. (c.before.requires.1, refl))
+    (λ c. (c.requires.1, refl))
     (λ c κs. search rules)
     (λ c κs. search rules)
     differing-requires
     (λ c κs. search rules)
-    (λ c. c.after_run.ensures.1 c.before.before.before.before.loop-test.true)
+    (λ c. c.after_run-left.ensures.1 c.loop-left-test.true)
     loop-again
     returns)

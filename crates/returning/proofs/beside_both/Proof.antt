@@ -14,17 +14,23 @@ use Rattle.returning.proofs.beside_both.Tie as tie
 abbrev os : tie.Start → List Entry
 os s = entries_at (table_in s.args.t.now).entries (places s.args.set)
 
-returns : tie.Need-returns
+returns : tie.Need-returns-then-not-highest
 returns c =
     let called = c.before.before in
     let s = called.before.before in
-    highest-fits s.args.preference (os s) _ called.beside-reference.ensures (not-true _ c.if1.true)
+    highest-fits s.args.preference (os s) _ called.beside_reference-highest.ensures (not-true _ c.if-not-highest.true)
 
-returns-2 : tie.Need-returns-2
+returns-2 : tie.Need-returns
 returns-2 c =
     let called = c.before.before.before in
     let s = called.before.before in
-    c.beside-reference2.ensures ∙ lowest-left s.args.preference (os s) _ called.beside-reference.ensures (not-false _ c.before.if1.false)
+    c.beside_reference.ensures ∙ lowest-left s.args.preference (os s) _ called.beside_reference-highest.ensures (not-false _ c.if-not-highest.false)
 
-pub beside-both-spec : {M : Type 1} → statement M
-beside-both-spec = tie.close (tie.spec (λ c κs. search rules) returns (λ c κs. search rules) returns-2)
+pub beside_both_spec : {M : Type 1} → statement M
+beside_both_spec =
+    tie.close
+    (tie.spec
+    (λ c κs. search rules)
+    returns
+    (λ c κs. search rules)
+    returns-2)

@@ -1,9 +1,8 @@
 -- `differing` meets its contract: at every turn, nothing differs so far and the places left carry the algorithm exactly if all do. Assumes nothing.
-use Prim.Native.Nat.{ℕ, ◌+◌, ◌-◌, ◌≤◌}
+use Prim.Native.Nat.{◌-◌}
 use native.Mathlib.Omega.{arith}
 use mathlib.Core.Path.{◌≡◌, refl, sym, ◌∙◌}
 use mathlib.Core.Bool.{◌&&◌}
-use borrow.Author.Rules.{rules}
 use lib.Dec.{eqb}
 use Rattle.layout.specs.Words.{table_in}
 use Rattle.places.specs.Places.{stretch}
@@ -12,30 +11,40 @@ use Rattle.returning.proofs.Laws.{under, under-end, under-on}
 use Rattle.returning.proofs.differing.Statement.{statement}
 use Rattle.returning.proofs.differing.Tie as tie
 
-abbrev invariant-loop : tie.invariant-loop
+abbrev invariant-loop : tie.invariant-loop-i
 invariant-loop t from end algorithm before wanted differ₀ i₀ differ i =
     let es = (table_in t).entries in
     (eqb differ 0 && under es algorithm (stretch i (end - i))) ≡ (eqb before 0 && under es algorithm (stretch from (end - from)))
 
-abbrev decreases-loop : tie.decreases-loop
+abbrev decreases-loop : tie.decreases-loop-i
 decreases-loop t from end algorithm before wanted differ₀ i₀ differ i = end - i
 
-algorithm-at-requires : tie.Need-algorithm-at-requires invariant-loop decreases-loop
-algorithm-at-requires c κs = let start = c.before.before.before in (start.requires.0, omega (arith, start.requires.1, c.loop-test.true))
+algorithm-at-requires : tie.Need-algorithm_at-requires invariant-loop decreases-loop
+algorithm-at-requires c κs = let start = c.before.before.before in (start.requires.0, omega (arith, start.requires.1, c.loop-i-test.true))
 
-loop-again : tie.Need-loop-preserved invariant-loop decreases-loop
+loop-again : tie.Need-loop-i-preserved invariant-loop decreases-loop
 loop-again c =
     let turn = c.before.before in
     let start = turn.before.before in
-    let l = turn.loop in
-    under-on (table_in start.args.t.now).entries start.args.algorithm l.differ _ l.i _ _ (stretch-on l.i start.args.end c.before.loop-test.true) c.algorithm-at.ensures ∙ l.invariant
+    let l = turn.loop-i in
+    under-on (table_in start.args.t.now).entries start.args.algorithm l.differ _ l.i _ _ (stretch-on l.i start.args.end c.loop-i-test.true) c.algorithm_at.ensures ∙ l.invariant
 
 returns : tie.Need-returns invariant-loop decreases-loop
 returns c =
     let turn = c.before in
     let start = turn.before.before in
-    let l = turn.loop in
-    sym (under-end (table_in start.args.t.now).entries start.args.algorithm (eqb l.differ 0) _ (stretch-over l.i start.args.end c.loop-test.false)) ∙ l.invariant
+    let l = turn.loop-i in
+    sym (under-end (table_in start.args.t.now).entries start.args.algorithm (eqb l.differ 0) _ (stretch-over l.i start.args.end c.loop-i-test.false)) ∙ l.invariant
 
-pub differing-spec : {M : Type 1} → statement M
-differing-spec = tie.close (tie.spec invariant-loop decreases-loop (λ c. refl) algorithm-at-requires (λ c. omega arith) (λ c. omega arith) loop-again returns)
+pub differing_spec : {M : Type 1} → statement M
+differing_spec =
+    tie.close
+    (tie.spec
+    invariant-loop
+    decreases-loop
+    (λ c. refl)
+    algorithm-at-requires
+    (λ c. omega arith)
+    (λ c. omega arith)
+    loop-again
+    returns)

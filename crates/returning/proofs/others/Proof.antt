@@ -8,29 +8,29 @@ use Rattle.returning.proofs.Laws.{others-missing, others-at}
 use Rattle.returning.proofs.others.Statement.{statement}
 use Rattle.returning.proofs.others.Tie as tie
 
-returns : tie.Need-returns
+returns : tie.Need-returns-in_default
 returns c =
-    let called = c.before.before in
+    let called = c.before in
     let below = called.before in
     let start = below.before.before.before in
     let h = start.requires.sound in
-    others-missing (table_in start.args.t.now).entries h.short h.rising (address_row start.args.address) _ _ below.before.count.ensures below.below.ensures _ (sym called.find.ensures ∙ c.enum_told.given.1)
+    others-missing (table_in start.args.t.now).entries h.short h.rising (address_row start.args.address) _ _ below.count.ensures below.below-all.ensures _ (sym called.find-found.ensures ∙ c.in_default.is)
 
-returns-2 : tie.Need-returns-2
+returns-2 : tie.Need-returns
 returns-2 c =
-    let found = c.before.before in
-    let called = found.before.before in
+    let found = c in
+    let called = found in
     let below = called.before in
-    let start = below.before.before.before in
+    let start = below.before in
     let h = start.requires.sound in
-    others-at (table_in start.args.t.now).entries h.short h.rising (address_row start.args.address) _ _ below.before.count.ensures below.below.ensures _ _ (sym called.find.ensures ∙ found.found.given.1) c.without.ensures
+    others-at (table_in start.args.t.now).entries h.short h.rising (address_row start.args.address) _ _ below.count.ensures below.below-all.ensures _ _ (sym called.find-found.ensures ∙ found.in-At.is) c.without.ensures
 
-pub others-spec : {M : Type 1} → statement M
-others-spec =
+pub others_spec : {M : Type 1} → statement M
+others_spec =
     tie.close
     (tie.spec
     (λ c κs. search rules)
-    (λ c κs. omega (arith, c.count.ensures, c.before.before.requires.sound.short))
+    (λ c κs. omega (arith, c.count.ensures, c.requires.sound.short))
     (λ c κs. search rules)
     (λ c. search rules)
     (λ c. search rules)

@@ -4,13 +4,17 @@ use Rattle.returning.specs.Returning.{reaches}
 use Rattle.returning.proofs.reach.Statement.{statement}
 use Rattle.returning.proofs.reach.Tie as tie
 
-returns : tie.Need-returns
+returns : tie.Need-returns-then-algorithm-eq3
 unfolding reaches
-returns c = rw (eq-eqb _ 3 c.if1.true)
+returns c = rw (eq-eqb _ 3 c.if-algorithm-eq3.true)
 
-returns-2 : tie.Need-returns-2
+returns-2 : tie.Need-returns
 unfolding reaches
-returns-2 c = rw (ne_eqb _ 3 c.if1.false)
+returns-2 c = rw (ne_eqb _ 3 c.if-algorithm-eq3.false)
 
-pub reach-spec : {M : Type 1} → statement M
-reach-spec = tie.close (tie.spec returns returns-2)
+pub reach_spec : {M : Type 1} → statement M
+reach_spec =
+    tie.close
+    (tie.spec
+    returns
+    returns-2)

@@ -6,7 +6,11 @@ use Rattle.route.proofs.ipv4.Tie as tie
 
 returns : tie.Need-returns
 unfolding ipv4_in
-returns c = rw c.high-four.ensures
+returns c = rw c.high_four-w0.ensures
 
-pub ipv4-spec : {M : Type 1} → statement M
-ipv4-spec = tie.close (tie.spec (λ c κs. search rules) returns)
+pub ipv4_spec : {M : Type 1} → statement M
+ipv4_spec =
+    tie.close
+    (tie.spec
+    (λ c κs. search rules)
+    returns)

@@ -6,7 +6,14 @@ use Rattle.route.proofs.ipv6.Tie as tie
 
 returns : tie.Need-returns
 unfolding ipv6_in
-returns c = rw (c.before.before.before.high-four.ensures, c.before.before.high-four2.ensures, c.before.high-four3.ensures, c.high-four4.ensures)
+returns c = rw (c.high_four-w0.ensures, c.high_four-w1.ensures, c.high_four-w2.ensures, c.high_four-w3.ensures)
 
-pub ipv6-spec : {M : Type 1} → statement M
-ipv6-spec = tie.close (tie.spec (λ c κs. search rules) (λ c κs. search rules) (λ c κs. search rules) (λ c κs. search rules) returns)
+pub ipv6_spec : {M : Type 1} → statement M
+ipv6_spec =
+    tie.close
+    (tie.spec
+    (λ c κs. search rules)
+    (λ c κs. search rules)
+    (λ c κs. search rules)
+    (λ c κs. search rules)
+    returns)

@@ -3,5 +3,11 @@ use borrow.Author.Rules.{rules}
 use Rattle.route.proofs.offset.Statement.{statement}
 use Rattle.route.proofs.offset.Tie as tie
 
-pub offset-spec : {M : Type 1} → statement M
-offset-spec = tie.close (tie.spec (λ c. search rules) (λ c. search rules) (λ c. search rules) (λ c. search rules))
+pub offset_spec : {M : Type 1} → statement M
+offset_spec =
+    tie.close
+    (tie.spec
+    (λ c. search rules)
+    (λ c. search rules)
+    (λ c. search rules)
+    (λ c. search rules))

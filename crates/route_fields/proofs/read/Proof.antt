@@ -11,41 +11,31 @@ use Rattle.route_fields.proofs.Laws.{reads-refused, reads-accepted}
 use Rattle.route_fields.proofs.read.Statement.{statement}
 use Rattle.route_fields.proofs.read.Tie as tie
 
-returns : tie.Need-returns
+returns : tie.Need-returns-in_default
 returns c =
-    let numbered = c.before in
-    let called = numbered.before.before.before in
-    let s = called.before.before.args.s.now in
-    reads-refused s _ _ _ _ _ called.check.ensures numbered.before.enum_told.given.1 numbered.number.ensures c.offset.ensures
+    let s = c.args.s.now in
+    reads-refused s _ _ _ _ _ c.check-checked.ensures c.in_default.is c.number-n.ensures c.offset-p.ensures
 
-part-store-end : tie.Need-slice-bounds-store-end
+part-store-end : tie.Need-slice_bounds-store-end-2
 part-store-end c =
-    let told = c.before.before in
-    let called = told.before.before in
-    let s = called.before.before.args.s.now in
-    let l : 25 ≤ length s = route-length s (told-originator s _ (sym called.check.ensures.0 ∙ told.checked.given.1)).0 in
+    let s = c.args.s.now in
+    let l : 25 ≤ length s = route-length s (told-originator s _ (sym c.check-checked.ensures.0 ∙ c.in-Originator.is)).0 in
     omega arith
 
-part-store-end-2 : tie.Need-slice-bounds-store-end-2
+part-store-end-2 : tie.Need-slice_bounds-store-end-4
 part-store-end-2 c =
-    let told = c.before.before.before.before.before.before in
-    let called = told.before.before in
-    let s = called.before.before.args.s.now in
-    let l : 25 ≤ length s = route-length s (told-originator s _ (sym called.check.ensures.0 ∙ told.checked.given.1)).0 in
+    let s = c.args.s.now in
+    let l : 25 ≤ length s = route-length s (told-originator s _ (sym c.check-checked.ensures.0 ∙ c.in-Originator.is)).0 in
     omega arith
 
-cast-t42 : tie.Need-overflow-cast-t42
-cast-t42 c = omega (arith, family-small c.before.row.result c.before.row.ensures.1.0)
+cast-t42 : tie.Need-overflow_cast-result
+cast-t42 c = omega (arith, family-small c.row-row.result c.row-row.ensures.1.0)
 
-returns-2 : tie.Need-returns-2
+returns-2 : tie.Need-returns
 returns-2 c =
-    let row = c.before.row in
-    let second = c.before.before.before in
-    let first = second.before.before.before.before in
-    let told = first.before.before.before.before in
-    let called = told.before.before in
-    reads-accepted called.before.before.args.s.now _ _ _ row.result _ _ (sym called.check.ensures.0 ∙ told.checked.given.1)
-    first.store.ensures second.store2.ensures row.ensures.0 refl (c.octets.ensures ∙ ap octets_in (words-after row.result row.ensures.1.0))
+    let row = c.row-row in
+    reads-accepted c.args.s.now _ _ _ row.result _ _ (sym c.check-checked.ensures.0 ∙ c.in-Originator.is)
+    c.store.ensures c.store-2.ensures row.ensures.0 refl (c.octets-o.ensures ∙ ap octets_in (words-after row.result row.ensures.1.0))
 
 pub read_spec : {M : Type 1} → statement M
 read_spec =

@@ -9,10 +9,10 @@ use Rattle.settings.proofs.algorithm_for.Tie as tie
 
 returns : tie.Need-returns
 unfolding settings_in
-returns c = let a = c.before.before.before.args in rw (part-from 2 a.s.now) at c.algorithm-in.ensures
+returns c = let a = c.args in rw (part-from 2 a.s.now) at c.algorithm_in.ensures
 
-pub algorithm-for-spec : {M : Type 1} → statement M
-algorithm-for-spec =
+pub algorithm_for_spec : {M : Type 1} → statement M
+algorithm_for_spec =
     tie.close
     (tie.spec
     (λ c. let s = c.before in omega (arith, length-settings s.args.s.now s.requires.0))

@@ -9,10 +9,10 @@ use Rattle.settings.proofs.any_range.Tie as tie
 
 returns : tie.Need-returns
 unfolding settings_in any_range
-returns c = let a = c.before.before.before.args in rw (part-from 2 a.s.now) at c.any.ensures
+returns c = let a = c.args in rw (part-from 2 a.s.now) at c.any.ensures
 
-pub any-range-spec : {M : Type 1} → statement M
-any-range-spec =
+pub any_range_spec : {M : Type 1} → statement M
+any_range_spec =
     tie.close
     (tie.spec
     (λ c. let s = c.before in omega (arith, length-settings s.args.s.now s.requires))

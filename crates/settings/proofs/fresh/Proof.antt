@@ -6,5 +6,8 @@ use Rattle.settings.proofs.fresh.Tie as tie
 returns : tie.Need-returns
 returns c = zeros-none
 
-pub fresh-spec : {M : Type 1} → statement M
-fresh-spec = tie.close (tie.spec returns)
+pub fresh_spec : {M : Type 1} → statement M
+fresh_spec =
+    tie.close
+    (tie.spec
+    returns)

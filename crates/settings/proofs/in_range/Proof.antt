@@ -4,11 +4,15 @@ use mathlib.Core.Path.{sym}
 use Rattle.settings.proofs.in_range.Statement.{statement}
 use Rattle.settings.proofs.in_range.Tie as tie
 
-returns : tie.Need-returns
-returns c = sym (below-four c.before.args.number c.if1.true)
+returns : tie.Need-returns-then-number-lt-LEAST
+returns c = sym (below-four c.args.number c.if-number-lt-LEAST.true)
 
-returns-2 : tie.Need-returns-2
-returns-2 c = four-or-more c.before.args.number c.if1.false
+returns-2 : tie.Need-returns
+returns-2 c = four-or-more c.args.number c.if-number-lt-LEAST.false
 
-pub in-range-spec : {M : Type 1} → statement M
-in-range-spec = tie.close (tie.spec returns returns-2)
+pub in_range_spec : {M : Type 1} → statement M
+in_range_spec =
+    tie.close
+    (tie.spec
+    returns
+    returns-2)

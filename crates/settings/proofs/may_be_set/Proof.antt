@@ -1,30 +1,36 @@
 -- `may_be_set` meets its contract: each number is tested, and then whether they differ. Assumes nothing.
 use mathlib.Core.Path.{sym, ◌∙◌}
 use borrow.Author.Rules.{rules}
-use borrow.Author.Tests.{not-true, not-false}
 use Rattle.settings.proofs.Laws.{first-not, second-not, both-may}
 use Rattle.settings.proofs.may_be_set.Statement.{statement}
 use Rattle.settings.proofs.may_be_set.Tie as tie
 
-returns : tie.Need-returns
+returns : tie.Need-returns-then-not-in_range
 returns c =
     let called = c.before in
-    let a = called.before.args in
-    first-not a.source-group a.any-source (sym called.in-range.ensures ∙ not-true _ c.if1.true)
+    let a = called.args in
+    first-not a.source_group a.any_source (sym called.in_range.ensures ∙ c.if-not-in_range.true)
 
-returns-2 : tie.Need-returns-2
+returns-2 : tie.Need-returns-then-not-in_range-2
 returns-2 c =
     let second = c.before in
     let first = second.before.before in
-    let a = first.before.args in
-    second-not a.source-group a.any-source (sym first.in-range.ensures ∙ not-false _ second.before.if1.false) (sym second.in-range2.ensures ∙ not-true _ c.if2.true)
+    let a = first.args in
+    second-not a.source_group a.any_source (sym first.in_range.ensures ∙ second.if-not-in_range.false) (sym second.in_range-2.ensures ∙ c.if-not-in_range-2.true)
 
-returns-3 : tie.Need-returns-3
+returns-3 : tie.Need-returns
 returns-3 c =
     let second = c.before in
     let first = second.before.before in
-    let a = first.before.args in
-    both-may a.source-group a.any-source (sym first.in-range.ensures ∙ not-false _ second.before.if1.false) (sym second.in-range2.ensures ∙ not-false _ c.if2.false)
+    let a = first.args in
+    both-may a.source_group a.any_source (sym first.in_range.ensures ∙ second.if-not-in_range.false) (sym second.in_range-2.ensures ∙ c.if-not-in_range-2.false)
 
-pub may-be-set-spec : {M : Type 1} → statement M
-may-be-set-spec = tie.close (tie.spec (λ c κs. search rules) returns (λ c κs. search rules) returns-2 returns-3)
+pub may_be_set_spec : {M : Type 1} → statement M
+may_be_set_spec =
+    tie.close
+    (tie.spec
+    (λ c κs. search rules)
+    returns
+    (λ c κs. search rules)
+    returns-2
+    returns-3)

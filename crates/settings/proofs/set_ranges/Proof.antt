@@ -9,11 +9,11 @@ returns : tie.Need-returns
 returns c =
     let start = c.before.before.before.before.before.before in
     let a = start.args in
-    let told = c.before.before.set.ensures in
+    let told = c.set.ensures in
     ranges-told a.s.now start.requires a.run.now _ _ told.0 told.1
 
-pub set-ranges-spec : {M : Type 1} → statement M
-set-ranges-spec =
+pub set_ranges_spec : {M : Type 1} → statement M
+set_ranges_spec =
     tie.close
     (tie.spec
     (λ c. let s = c.before.before in omega (arith, length-settings s.args.s.now s.requires))

@@ -6,7 +6,12 @@ use Rattle.table.proofs.fresh.Statement.{statement}
 use Rattle.table.proofs.fresh.Tie as tie
 
 returns : tie.Need-returns
-returns c = fresh-told c.before.before.before.before.args.esi.now _ _ c.before.give.ensures
+returns c = fresh-told c.args.esi.now _ _ c.give-number.ensures
 
-pub fresh-spec : {M : Type 1} → statement M
-fresh-spec = tie.close (tie.spec (λ c. search rules) (λ c κs. refl) returns)
+pub fresh_spec : {M : Type 1} → statement M
+fresh_spec =
+    tie.close
+    (tie.spec
+    (λ c. search rules)
+    (λ c κs. refl)
+    returns)

@@ -9,29 +9,29 @@ use borrow.Author.Rules.{rules}
 use Rattle.table.proofs.withdraw.Statement.{statement}
 use Rattle.table.proofs.withdraw.Tie as tie
 
-returns : tie.Need-returns
+returns : tie.Need-returns-then-is_zero
 returns c =
     let start = c.before.before.before in
-    withdrawn-zero start.args.t.now start.requires (address_row start.args.address) (sym c.before.is_zero.ensures ∙ c.if1.true)
+    withdrawn-zero start.args.t.now start.requires (address_row start.args.address) (sym c.is_zero.ensures ∙ c.if-is_zero.true)
 
-returns-2 : tie.Need-returns-2
+returns-2 : tie.Need-returns-in_default
 returns-2 c =
-    let start = c.before.before.before.before.before.before.before in
-    withdrawn-missing start.args.t.now start.requires (address_row start.args.address) _ (sym c.before.before.before.before.before.is_zero.ensures ∙ c.before.before.before.before.if1.false) (sym c.before.before.find.ensures ∙ c.enum_told.given.1)
+    let start = c in
+    withdrawn-missing start.args.t.now start.requires (address_row start.args.address) _ (sym c.is_zero.ensures ∙ c.if-is_zero.false) (sym c.find-found.ensures ∙ c.in_default.is)
 
 shrink-requires : tie.Need-shrink-requires
 shrink-requires c κs =
-    let start = c.before.before.before.before.before.before.before.before.before in
+    let start = c in
     let b = start.args.t.now in
-    (start.requires, at_lt entry_key (address_key (address_row start.args.address)) (table_in b).entries 1 no_entry start.requires.sound.rising _ (sym c.before.before.before.before.find.ensures ∙ c.before.before.found.given.1))
+    (start.requires, at_lt entry_key (address_key (address_row start.args.address)) (table_in b).entries 1 no_entry start.requires.sound.rising _ (sym c.find-found.ensures ∙ c.in-At.is))
 
-returns-3 : tie.Need-returns-3
+returns-3 : tie.Need-returns
 returns-3 c =
-    let start = c.before.before.before.before.before.before.before.before.before.before.before.before in
-    withdrawn-at start.args.t.now start.requires (address_row start.args.address) _ (sym c.before.before.before.before.before.before.before.before.before.before.is_zero.ensures ∙ c.before.before.before.before.before.before.before.before.before.if1.false) (sym c.before.before.before.before.before.before.before.find.ensures ∙ c.before.before.before.before.before.found.given.1) _ c.before.before.shrink.ensures
+    let start = c in
+    withdrawn-at start.args.t.now start.requires (address_row start.args.address) _ (sym c.is_zero.ensures ∙ c.if-is_zero.false) (sym c.find-found.ensures ∙ c.in-At.is) _ c.shrink.ensures
 
-pub withdraw-spec : {M : Type 1} → statement M
-withdraw-spec =
+pub withdraw_spec : {M : Type 1} → statement M
+withdraw_spec =
     tie.close
     (tie.spec
     (λ c κs. search rules)

@@ -10,15 +10,15 @@ use Rattle.tag_ranges.proofs.algorithm_in.Tie as tie
 
 returns : tie.Need-returns
 unfolding tag_ranges_in
-returns c = c.algorithm-in.ensures
+returns c = c.algorithm_in.ensures
 
-pub algorithm-in-spec : {M : Type 1} → statement M
-algorithm-in-spec =
+pub algorithm_in_spec : {M : Type 1} → statement M
+algorithm_in_spec =
     tie.close
     (tie.spec
-    (λ c. let s = c.before.before in sym (length-take-le 49 s.args.b.now (omega (arith, length-tag-ranges s.args.b.now s.requires.0))))
-    (λ c. let s = c.before.before in omega (arith, length-tag-ranges s.args.b.now s.requires.0))
-    (λ c. let s = c.before.before in omega (arith, length-tag-ranges s.args.b.now s.requires.0))
+    (λ c. let s = c in sym (length-take-le 49 s.args.b.now (omega (arith, length-tag-ranges s.args.b.now s.requires.0))))
+    (λ c. let s = c in omega (arith, length-tag-ranges s.args.b.now s.requires.0))
+    (λ c. let s = c in omega (arith, length-tag-ranges s.args.b.now s.requires.0))
     (λ c. search rules)
-    (λ c κs. let s = c.before.before.before in (valid-kept s.args.b.now s.requires.0, index-part s.args.b.now s.requires.0, s.requires.1))
+    (λ c κs. let s = c in (valid-kept s.args.b.now s.requires.0, index-part s.args.b.now s.requires.0, s.requires.1))
     returns)

@@ -2,7 +2,6 @@
 use native.Mathlib.Omega.{arith}
 use mathlib.Core.Path.{sym}
 use lib.Seq.{length-take-le}
-use borrow.Author.Rules.{rules}
 use Rattle.tag_ranges.specs.TagRanges.{tag_ranges_in}
 use Rattle.tag_ranges.proofs.Laws.{length-tag-ranges, valid-kept}
 use Rattle.tag_ranges.proofs.any.Statement.{statement}
@@ -16,6 +15,6 @@ pub any_spec : {M : Type 1} → statement M
 any_spec =
     tie.close
     (tie.spec
-    (λ c. let s = c.before.before in sym (length-take-le 49 s.args.b.now (omega (arith, length-tag-ranges s.args.b.now s.requires))))
-    (λ c κs. let s = c.before.before in valid-kept s.args.b.now s.requires)
+    (λ c. let s = c in sym (length-take-le 49 s.args.b.now (omega (arith, length-tag-ranges s.args.b.now s.requires))))
+    (λ c κs. let s = c in valid-kept s.args.b.now s.requires)
     returns)

@@ -10,21 +10,29 @@ use Rattle.winner.proofs.Laws.{best-as}
 use Rattle.winner.proofs.best.Statement.{statement}
 use Rattle.winner.proofs.best.Tie as tie
 
-returns : tie.Need-returns
+returns : tie.Need-returns-then-set-gt-FEW
 returns c =
-    let a = c.before.before.before.before.args in
-    best-as (table_in a.t.now).entries a.set 1 a.digest a.algorithm a.digest (ap (λ (x : ℕ). better x a.digest) (sym c.before.before.if1.true)) c.by_runs.ensures
+    let a = c.args in
+    best-as (table_in a.t.now).entries a.set 1 a.digest a.algorithm a.digest (ap (λ (x : ℕ). better x a.digest) (sym c.if-algorithm-eq1.true)) c.by_runs.ensures
 
-returns-2 : tie.Need-returns-2
+returns-2 : tie.Need-returns-then-algorithm-eq1
 returns-2 c =
-    let a = c.before.before.before.before.args in
-    best-as (table_in a.t.now).entries a.set 1 a.digest a.algorithm a.digest (ap (λ (x : ℕ). better x a.digest) (sym c.before.before.if1.true)) c.heaviest.ensures
+    let a = c.args in
+    best-as (table_in a.t.now).entries a.set 1 a.digest a.algorithm a.digest (ap (λ (x : ℕ). better x a.digest) (sym c.if-algorithm-eq1.true)) c.heaviest.ensures
 
-returns-3 : tie.Need-returns-3
+returns-3 : tie.Need-returns
 returns-3 c =
-    let a = c.before.before.before.args in
+    let a = c.args in
     best-as (table_in a.t.now).entries a.set a.algorithm 0 a.algorithm a.digest
-    (better-any a.algorithm 0 a.digest (ne_eqb a.algorithm 1 c.before.if1.false)) c.preferred.ensures
+    (better-any a.algorithm 0 a.digest (ne_eqb a.algorithm 1 c.if-algorithm-eq1.false)) c.preferred.ensures
 
-pub best-spec : {M : Type 1} → statement M
-best-spec = tie.close (tie.spec (λ c κs. search rules) returns (λ c κs. search rules) returns-2 (λ c κs. search rules) returns-3)
+pub best_spec : {M : Type 1} → statement M
+best_spec =
+    tie.close
+    (tie.spec
+    (λ c κs. search rules)
+    returns
+    (λ c κs. search rules)
+    returns-2
+    (λ c κs. search rules)
+    returns-3)

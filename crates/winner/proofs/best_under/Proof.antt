@@ -12,42 +12,42 @@ use Rattle.winner.proofs.Laws.{Step, first-there, walk_begins, walk-on, walk_end
 use Rattle.winner.proofs.best_under.Statement.{statement}
 use Rattle.winner.proofs.best_under.Tie as tie
 
-abbrev invariant-loop : tie.invariant-loop
+abbrev invariant-loop : tie.invariant-loop-left
 invariant-loop t set algorithm at₀ top₀ left₀ at top left =
     let es = (table_in t).entries in
     let S = score_of algorithm 0 in
     Toward (best_in (higher S) no_entry (entries_at es (places set))) S es at top left
 
-abbrev decreases-loop : tie.decreases-loop
+abbrev decreases-loop : tie.decreases-loop-left
 decreases-loop t set algorithm at₀ top₀ left₀ at top left = left
 
-score-requires : tie.Need-score-requires invariant-loop decreases-loop
+score-requires : tie.Need-score-top-requires invariant-loop decreases-loop
 score-requires c κs =
     let start = c.before.before in
-    (start.requires.0, first-there (table_in start.args.t.now).entries start.requires.0.sound.short start.requires.2 start.requires.1 c.first.ensures, start.requires.3)
+    (start.requires.0, first-there (table_in start.args.t.now).entries start.requires.0.sound.short start.requires.2 start.requires.1 c.first-at.ensures, start.requires.3)
 
-loop-holds : tie.Need-loop-init invariant-loop decreases-loop
+loop-holds : tie.Need-loop-left-init invariant-loop decreases-loop
 loop-holds c =
     let first = c.before.before in
     let start = first.before.before in
-    walk_begins (table_in start.args.t.now).entries start.requires.0.sound.short (record { some = start.requires.1; first = first.first.ensures; rest = c.rest.ensures.0; less = c.rest.ensures.1 start.requires.1 }) start.requires.2 (score_of start.args.algorithm 0) c.before.score.ensures
+    walk_begins (table_in start.args.t.now).entries start.requires.0.sound.short (record { some = start.requires.1; first = first.first-at.ensures; rest = c.rest-left.ensures.0; less = c.rest-left.ensures.1 start.requires.1 }) start.requires.2 (score_of start.args.algorithm 0) c.score-top.ensures
 
-score-requires-2 : tie.Need-score-requires-2 invariant-loop decreases-loop
+score-requires-2 : tie.Need-score-s-requires invariant-loop decreases-loop
 score-requires-2 c κs =
     let turn = c.before.before in
     let start = turn.before.before.before.before.before in
-    (start.requires.0, first-there (table_in start.args.t.now).entries start.requires.0.sound.short turn.loop.invariant.0.within c.before.loop-test.true c.first2.ensures, start.requires.3)
+    (start.requires.0, first-there (table_in start.args.t.now).entries start.requires.0.sound.short turn.loop-left.invariant.0.within c.loop-left-test.true c.first-next.ensures, start.requires.3)
 
-loop-again : tie.Need-loop-preserved invariant-loop decreases-loop
+loop-again : tie.Need-loop-left-preserved invariant-loop decreases-loop
 loop-again c =
     let scored = c.before.before in
     let first = scored.before in
     let turn = first.before.before in
     let start = turn.before.before.before.before.before in
-    let v = turn.loop.invariant in
-    let n = first.before.loop-test.true in
-    let step : Step turn.loop.left first.first2.result c.rest2.result = record { some = n; first = first.first2.ensures; rest = c.rest2.ensures.0; less = c.rest2.ensures.1 n } in
-    walk-on (table_in start.args.t.now).entries start.requires.0.sound.short step v.0.within (score_of start.args.algorithm 0) v scored.score2.ensures (⊎_elim (λ w. inl (w.0.taken, w.1, w.2)) (λ w. inr (w.0.left, w.1, w.2)) c.before.if1.branch)
+    let v = turn.loop-left.invariant in
+    let n = first.loop-left-test.true in
+    let step : Step turn.loop-left.left first.first-next.result c.rest-left-in-loop-left.result = record { some = n; first = first.first-next.ensures; rest = c.rest-left-in-loop-left.ensures.0; less = c.rest-left-in-loop-left.ensures.1 n } in
+    walk-on (table_in start.args.t.now).entries start.requires.0.sound.short step v.0.within (score_of start.args.algorithm 0) v scored.score-s.ensures (⊎_elim (λ w. inl (w.if-top-s.true, w.at-is, w.top-is)) (λ w. inr (w.if-top-s.false, w.at-is, w.top-is)) c.if-top-s.branch-raw)
 
 returns : tie.Need-returns invariant-loop decreases-loop
 returns c =
@@ -55,11 +55,11 @@ returns c =
     let start = turn.before.before.before.before.before in
     let b = start.args.t.now in
     let h = start.requires.0 in
-    let v = turn.loop.invariant in
-    walk_ends (table_in b).entries h.sound.short h.sound.rising (narrow-entries b h) start.args.algorithm 0 start.args.set start.requires.2 v c.loop-test.false
+    let v = turn.loop-left.invariant in
+    walk_ends (table_in b).entries h.sound.short h.sound.rising (narrow-entries b h) start.args.algorithm 0 start.args.set start.requires.2 v c.loop-left-test.false
 
-pub best-under-spec : {M : Type 1} → statement M
-best-under-spec =
+pub best_under_spec : {M : Type 1} → statement M
+best_under_spec =
     tie.close
     (tie.spec
     invariant-loop
@@ -71,6 +71,6 @@ best-under-spec =
     (λ c κs. search rules)
     score-requires-2
     (λ c κs. search rules)
-    (λ c. c.rest2.ensures.1 c.before.before.before.before.loop-test.true)
+    (λ c. c.rest-left-in-loop-left.ensures.1 c.loop-left-test.true)
     loop-again
     returns)

@@ -11,25 +11,33 @@ use Rattle.winner.proofs.Laws.{best-as}
 use Rattle.winner.proofs.by_runs.Statement.{statement}
 use Rattle.winner.proofs.by_runs.Tie as tie
 
-returns : tie.Need-returns
+returns : tie.Need-returns-in-1
 returns c =
-    let a = c.before.before.before.args in
+    let a = c.args in
     let d = a.digest in
-    best-as (table_in a.t.now).entries a.set 1 d a.algorithm d (ap (λ (x : ℕ). better x d) (sym c.before.match.keys1)) c.heaviest-by-runs.ensures
+    best-as (table_in a.t.now).entries a.set 1 d a.algorithm d (ap (λ (x : ℕ). better x d) (sym c.in-1.is)) c.heaviest_by_runs.ensures
 
-returns-2 : tie.Need-returns-2
+returns-2 : tie.Need-returns-in-3
 returns-2 c =
-    let a = c.before.before.before.args in
+    let a = c.args in
     let d = a.digest in
-    best-as (table_in a.t.now).entries a.set 3 0 a.algorithm d (better-any 3 0 d refl ∙ ap (λ (x : ℕ). better x d) (sym c.before.match.keys2)) c.best_by_runs.ensures
+    best-as (table_in a.t.now).entries a.set 3 0 a.algorithm d (better-any 3 0 d refl ∙ ap (λ (x : ℕ). better x d) (sym c.in-3.is)) c.best_by_runs.ensures
 
-returns-3 : tie.Need-returns-3
+returns-3 : tie.Need-returns-in_default
 returns-3 c =
-    let a = c.before.before.before.args in
+    let a = c.args in
     let d = a.digest in
     let n = a.algorithm in
-    let other = c.before.match.rest in
-    best-as (table_in a.t.now).entries a.set 2 0 n d (better-any 2 0 d refl ∙ sym (better-two n d (ne_eqb n 1 other.0.1) (ne_eqb n 3 other.1))) c.best-by-runs2.ensures
+    let other = c.in_default.in_default-own.rest in
+    best-as (table_in a.t.now).entries a.set 2 0 n d (better-any 2 0 d refl ∙ sym (better-two n d (ne_eqb n 1 other.0.1) (ne_eqb n 3 other.1))) c.best_by_runs-in_default.ensures
 
-pub by-runs-spec : {M : Type 1} → statement M
-by-runs-spec = tie.close (tie.spec (λ c κs. search rules) (λ c κs. search rules) (λ c κs. search rules) returns returns-2 returns-3)
+pub by_runs_spec : {M : Type 1} → statement M
+by_runs_spec =
+    tie.close
+    (tie.spec
+    (λ c κs. search rules)
+    (λ c κs. search rules)
+    (λ c κs. search rules)
+    returns
+    returns-2
+    returns-3)

@@ -15,56 +15,56 @@ use Rattle.winner.proofs.Runs.{run-there, runs-begin, runs_on, run-begins, run-s
 use Rattle.winner.proofs.heaviest_by_runs.Statement.{statement}
 use Rattle.winner.proofs.heaviest_by_runs.Tie as tie
 
-abbrev invariant-loop : tie.invariant-loop
+abbrev invariant-loop : tie.invariant-loop-left
 invariant-loop t set digest at₀ top₀ left₀ at top left =
     let es = (table_in t).entries in
     let S = score_of 1 digest in
     Toward (best_in (higher S) no_entry (entries_at es (places set))) S es at top left
 
-abbrev decreases-loop : tie.decreases-loop
+abbrev decreases-loop : tie.decreases-loop-left
 decreases-loop t set digest at₀ top₀ left₀ at top left = left
 
-low-word-at-requires : tie.Need-low-word-at-requires invariant-loop decreases-loop
+low-word-at-requires : tie.Need-low_word_at-requires invariant-loop decreases-loop
 low-word-at-requires c κs =
     let start = c.before.before in
-    (start.requires.0, first-there (table_in start.args.t.now).entries start.requires.0.sound.short start.requires.2 start.requires.1 c.first.ensures)
+    (start.requires.0, first-there (table_in start.args.t.now).entries start.requires.0.sound.short start.requires.2 start.requires.1 c.first-at.ensures)
 
-loop-holds : tie.Need-loop-init invariant-loop decreases-loop
+loop-holds : tie.Need-loop-left-init invariant-loop decreases-loop
 loop-holds c =
     let found = c.before.before in
     let start = found.before.before in
     let es = (table_in start.args.t.now).entries in
     let d = start.args.digest in
-    runs-begin (score_of 1 d) es start.requires.0.sound.short start.requires.2 start.requires.1 found.first.ensures (score-weight d _ _ (get_or es found.first.result no_entry) c.before.low-word-at.ensures c.doubled-weight.ensures.0)
+    runs-begin (score_of 1 d) es start.requires.0.sound.short start.requires.2 start.requires.1 found.first-at.ensures (score-weight d _ _ (get_or es found.first-at.result no_entry) c.low_word_at.ensures c.doubled_weight-top.ensures.0)
 
-abbrev start : tie.At-loop invariant-loop decreases-loop → tie.Start invariant-loop decreases-loop
+abbrev start : tie.At-loop-left invariant-loop decreases-loop → tie.Start invariant-loop decreases-loop
 start c = c.before.before.before.before.before
 
 -- the run is in use
-there : (c : tie.After-run-end invariant-loop decreases-loop) → let s = start c.before.before.before in c.run-end.result ≤ length (table_in s.args.t.now).entries
+there : (c : tie.After-run_end-end invariant-loop decreases-loop) → let s = start c.before.before.before in c.run_end-end.result ≤ length (table_in s.args.t.now).entries
 there c =
     let turn = c.before.before.before in
     let s = start turn in
-    run-there (table_in s.args.t.now).entries s.pre.0.sound.short turn.loop.invariant.0.within c.before.before.loop-test.true c.before.first2.ensures c.run-end.ensures
+    run-there (table_in s.args.t.now).entries s.requires.0.sound.short turn.loop-left.invariant.0.within c.loop-left-test.true c.first.ensures c.run_end-end.ensures
 
-heaviest-of-run-requires : tie.Need-heaviest-of-run-requires invariant-loop decreases-loop
+heaviest-of-run-requires : tie.Need-heaviest_of_run-run4-requires invariant-loop decreases-loop
 heaviest-of-run-requires c κs =
     let turn = c.before.before.before in
     let s = start turn in
-    let v = turn.loop.invariant.0 in
-    (s.pre.0, there c, (v.there, v.scored), run-begins s.args.t.now s.pre.0 c.before.first2.result c.run-end.result (there c))
+    let v = turn.loop-left.invariant.0 in
+    (s.requires.0, there c, (v.there, v.scored), run-begins s.args.t.now s.requires.0 c.first.result c.run_end-end.result (there c))
 
-heaviest-of-run-requires-2 : tie.Need-heaviest-of-run-requires-2 invariant-loop decreases-loop
+heaviest-of-run-requires-2 : tie.Need-heaviest_of_run-run6-requires invariant-loop decreases-loop
 heaviest-of-run-requires-2 c κs =
     let ended = c.before in
     let s = start ended.before.before.before in
-    let r4 = c.heaviest-of-run in
-    (s.pre.0, there ended, r4.ensures.0.0, run-six s.args.t.now s.pre.0 r4.result.next ended.run-end.result (there ended) r4.ensures.1)
+    let r4 = c.heaviest_of_run-run4 in
+    (s.requires.0, there ended, r4.ensures.0.0, run-six s.args.t.now s.requires.0 r4.result.next ended.run_end-end.result (there ended) r4.ensures.1)
 
-loop-again : tie.Need-loop-preserved invariant-loop decreases-loop
+loop-again : tie.Need-loop-left-preserved invariant-loop decreases-loop
 loop-again c =
-    let run6 = c.before.heaviest-of-run2 in
-    let run4 = c.before.before.heaviest-of-run in
+    let run6 = c.heaviest_of_run-run6 in
+    let run4 = c.heaviest_of_run-run4 in
     let ended = c.before.before.before in
     let found = ended.before in
     let turn = found.before.before in
@@ -72,25 +72,25 @@ loop-again c =
     let b = s.args.t.now in
     let es = (table_in b).entries in
     let S = score_of 1 s.args.digest in
-    let left = turn.loop.left in
-    let f = found.first2.result in
-    let e = ended.run-end.result in
-    let splits = run-splits (places left) f e found.first2.ensures ended.run-end.ensures c.after_run.ensures.0 in
-    let over = run-over b s.pre.0 run6.result.next e (there ended) run6.ensures.1 in
+    let left = turn.loop-left.left in
+    let f = found.first.result in
+    let e = ended.run_end-end.result in
+    let splits = run-splits (places left) f e found.first.ensures ended.run_end-end.ensures c.after_run-left.ensures.0 in
+    let over = run-over b s.requires.0 run6.result.next e (there ended) run6.ensures.1 in
     let n4 = run4.result.next in
     let n6 = run6.result.next in
-    runs_on S es (stretch f (e - f)) (stretch n4 (e - n4)) (stretch n6 (e - n6)) turn.loop.invariant (c.after_run.ensures.1 found.before.loop-test.true) splits run4.ensures.0 run6.ensures.0 over
+    runs_on S es (stretch f (e - f)) (stretch n4 (e - n4)) (stretch n6 (e - n6)) turn.loop-left.invariant (c.after_run-left.ensures.1 found.loop-left-test.true) splits run4.ensures.0 run6.ensures.0 over
 
 returns : tie.Need-returns invariant-loop decreases-loop
 returns c =
     let turn = c.before in
     let s = start turn in
     let b = s.args.t.now in
-    let h = s.pre.0 in
-    walk_ends (table_in b).entries h.sound.short h.sound.rising (narrow-entries b h) 1 s.args.digest s.args.set s.pre.2 turn.loop.invariant c.loop-test.false
+    let h = s.requires.0 in
+    walk_ends (table_in b).entries h.sound.short h.sound.rising (narrow-entries b h) 1 s.args.digest s.args.set s.requires.2 turn.loop-left.invariant c.loop-left-test.false
 
-pub heaviest-by-runs-spec : {M : Type 1} → statement M
-heaviest-by-runs-spec =
+pub heaviest_by_runs_spec : {M : Type 1} → statement M
+heaviest_by_runs_spec =
     tie.close
     (tie.spec
     invariant-loop
@@ -104,6 +104,6 @@ heaviest-by-runs-spec =
     heaviest-of-run-requires
     heaviest-of-run-requires-2
     (λ c κs. tt)
-    (λ c. c.after_run.ensures.1 c.before.before.before.before.before.loop-test.true)
+    (λ c. c.after_run-left.ensures.1 c.loop-left-test.true)
     loop-again
     returns)

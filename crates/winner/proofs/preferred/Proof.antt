@@ -10,17 +10,25 @@ use Rattle.winner.proofs.Laws.{best-as}
 use Rattle.winner.proofs.preferred.Statement.{statement}
 use Rattle.winner.proofs.preferred.Tie as tie
 
-returns-2 : tie.Need-returns-2
+returns-2 : tie.Need-returns-then-algorithm-eq3
 returns-2 c =
-    let a = c.before.before.before.before.args in
-    best-as (table_in a.t.now).entries a.set 3 0 a.algorithm 0 (ap (λ (x : ℕ). better x 0) (sym c.before.if2.true)) c.best-under.ensures
+    let a = c.args in
+    best-as (table_in a.t.now).entries a.set 3 0 a.algorithm 0 (ap (λ (x : ℕ). better x 0) (sym c.if-algorithm-eq3.true)) c.best_under.ensures
 
-returns-3 : tie.Need-returns-3
+returns-3 : tie.Need-returns
 returns-3 c =
     let start = c.before.before.before.before in
     let a = start.args in
     best-as (table_in a.t.now).entries a.set 2 0 a.algorithm 0
-    (sym (better-two a.algorithm 0 (ne_eqb a.algorithm 1 start.requires.3) (ne_eqb a.algorithm 3 c.before.if2.false))) c.best-under2.ensures
+    (sym (better-two a.algorithm 0 (ne_eqb a.algorithm 1 start.requires.3) (ne_eqb a.algorithm 3 c.if-algorithm-eq3.false))) c.best_under-2.ensures
 
-pub preferred-spec : {M : Type 1} → statement M
-preferred-spec = tie.close (tie.spec (λ c κs. search rules) (λ c. c.by_runs.ensures) (λ c κs. search rules) returns-2 (λ c κs. search rules) returns-3)
+pub preferred_spec : {M : Type 1} → statement M
+preferred_spec =
+    tie.close
+    (tie.spec
+    (λ c κs. search rules)
+    (λ c. c.by_runs.ensures)
+    (λ c κs. search rules)
+    returns-2
+    (λ c κs. search rules)
+    returns-3)

@@ -8,16 +8,21 @@ use Rattle.winner.proofs.Laws.{score-turned, score-plain}
 use Rattle.winner.proofs.score.Statement.{statement}
 use Rattle.winner.proofs.score.Tie as tie
 
-returns : tie.Need-returns
+returns : tie.Need-returns-then-algorithm-eq3
 returns c =
     let start = c.before.before.before in
     let b = start.args.t.now in
-    score-turned start.args.algorithm 0 _ (get_or (table_in b).entries start.args.at no_entry) (narrow-entry b start.requires.0 start.args.at) start.requires.2 c.if1.true c.before.standing-at.ensures.0 c.before.standing-at.ensures.1
+    score-turned start.args.algorithm 0 _ (get_or (table_in b).entries start.args.at no_entry) (narrow-entry b start.requires.0 start.args.at) start.requires.2 c.if-algorithm-eq3.true c.standing_at-standing.ensures.0 c.standing_at-standing.ensures.1
 
-returns-2 : tie.Need-returns-2
+returns-2 : tie.Need-returns
 returns-2 c =
     let start = c.before.before.before in
-    score-plain start.args.algorithm 0 _ (get_or (table_in start.args.t.now).entries start.args.at no_entry) start.requires.2 c.if1.false c.before.standing-at.ensures.0
+    score-plain start.args.algorithm 0 _ (get_or (table_in start.args.t.now).entries start.args.at no_entry) start.requires.2 c.if-algorithm-eq3.false c.standing_at-standing.ensures.0
 
-pub score-spec : {M : Type 1} → statement M
-score-spec = tie.close (tie.spec (λ c κs. search rules) returns returns-2)
+pub score_spec : {M : Type 1} → statement M
+score_spec =
+    tie.close
+    (tie.spec
+    (λ c κs. search rules)
+    returns
+    returns-2)
