@@ -1,6 +1,6 @@
 -- Losing a bystander disturbs nobody (`specs/Bystander.antt`), for every table and settings that the calls can have made. An address is known by its key, so the one withdrawn must be the
 -- only one with its key that the table can hold: that is so of addresses whose words have 32 bits, and so in all words that a caller lends. Assumes nothing.
-use Prim.Native.Nat.{ℕ, ◌*◌}
+use Prim.Native.Nat.{ℕ}
 use native.Mathlib.Omega.{arith}
 use mathlib.Core.Path.{◌≡◌, refl, ap, sym, ◌∙◌}
 use mathlib.Core.List.{List, Memᴰ}

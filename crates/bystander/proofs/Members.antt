@@ -10,10 +10,7 @@ use lib.Dec.{eqb}
 use borrow.Author.Tests.{eq-eqb, eqb-true}
 use Rattle.lists.specs.Lists.{all}
 use Rattle.lists.proofs.Bools.{by-test, true-false, not-true-false}
-use Rattle.lists.proofs.Numbers.{whether}
 use Rattle.ranges.proofs.Laws.{both}
-use Rattle.keyed.specs.Keyed.{remove}
-use Rattle.keyed.proofs.Order.{remove-none, remove-here, remove-there}
 use Rattle.places.specs.Places.{picked}
 use Rattle.choice.specs.Choice.{filtered}
 use Rattle.choice.proofs.Laws.{Unique, kept-true, kept-false, mem-kept, kept-mem}
@@ -35,10 +32,11 @@ module _ {A : Type 0} where
     all-members [] h = refl
     all-members (x ∷ l) h = rw (h x (Memᴰ.head refl)) (all-members l (λ y m. h y (Memᴰ.tail m)))
 
-    pub member-of-all : {l : List A} {x : A} → all test l ≡ true → Memᴰ x l → test x ≡ true
+    pub member-of-all : {x : A} {l : List A} → all test l ≡ true → Memᴰ x l → test x ≡ true
     unfolding all
-    member-of-all {l = y ∷ l} h (Memᴰ.head e) = ap test e ∙ (both (test y) (all test l) h).0
-    member-of-all {l = y ∷ l} h (Memᴰ.tail m) = member-of-all (both (test y) (all test l) h).1 m
+    member-of-all {x = x} {l = []} h x6 = elim x6 [ ]
+    member-of-all {x = x} {l = y ∷ l} h (Memᴰ.head e) = ap test e ∙ (both (test y) (all test l) h).0
+    member-of-all {x = x} {l = y ∷ l} h (Memᴰ.tail m) = member-of-all {x = x} (both (test y) (all test l) h).1 m
 
     -- MEMBERS THAT A TEST PICKS
     picked-filtered : (l : List A) → picked (map test l) l ≡ filtered test l
@@ -82,10 +80,11 @@ eligible-alike ac ready others x e = rw e
 abbrev address_of : Entry → List ℕ
 address_of e = e.address
 
-listed_in : {l : List Entry} {x : Entry} → Memᴰ x l → on_list (map address_of l) x.address ≡ true
+listed_in : {x : Entry} {l : List Entry} → Memᴰ x l → on_list (map address_of l) x.address ≡ true
 unfolding on_list
-listed_in {l = y ∷ l} {x} (Memᴰ.head e) = rw (eq-eqb (address_key y.address) (address_key x.address) (ap entry_key (sym e)))
-listed_in {l = y ∷ l} {x} (Memᴰ.tail m) = rw (listed_in m) (or-true (eqb (address_key y.address) (address_key x.address)))
+listed_in {x = x} {l = []} x3 = elim x3 [ ]
+listed_in {x = x} {l = y ∷ l} (Memᴰ.head e) = rw (eq-eqb (address_key y.address) (address_key x.address) (ap entry_key (sym e)))
+listed_in {x = x} {l = y ∷ l} (Memᴰ.tail m) = rw (listed_in {x = x} m) (or-true (eqb (address_key y.address) (address_key x.address)))
 
 listed_of : (l : List Entry) (a : List ℕ) → on_list (map address_of l) a ≡ true → (y : Entry) × (Memᴰ y l × (entry_key y ≡ address_key a))
 unfolding on_list

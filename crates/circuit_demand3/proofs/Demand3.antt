@@ -4,7 +4,7 @@ use native.Mathlib.Omega.{arith}
 use mathlib.Core.Path.{◌≡◌, refl, ap, ◌∙◌}
 use mathlib.Core.Bool.{cond}
 use mathlib.Core.List.Permᴰ
-use mathlib.Core.List.{List, [], ◌∷◌, map, Permᴰ}
+use mathlib.Core.List.{List, [], ◌∷◌, map}
 use mathlib.Core.Option.{Option}
 use lib.ListN.{length-map, replicate}
 use lib.Dec.{eqb}
@@ -20,7 +20,7 @@ use Rattle.circuit_layout.specs.Circuits.{CircuitsRight, circuit_words}
 use Rattle.answers.specs.declared.Answer.{Answer}
 use Rattle.circuit_election.specs.Over.{elect_over}
 use Rattle.circuit_demand3.specs.Calls.{CircuitCall, announce, withdraw, elect, CircuitReply, change_reply, elect_reply, circuit_number, circuit_reply, circuits_left}
-use Rattle.circuit_demand3.specs.Journal.{AdAnnouncement, route_from, route_key, again_circuit, routes_from, circuit_call_number, circuit_effect, number_held, step_held, circuit_journal_reply, circuits_held}
+use Rattle.circuit_demand3.specs.Journal.{AdAnnouncement, route_from, route_key, again_circuit, routes_from, circuit_call_number, circuit_effect, number_held, step_held, circuit_journal_reply}
 use Rattle.circuit_demand3.specs.Demand3.{circuits_after, CircuitFollows, CircuitsDemand3}
 use Rattle.circuit_demand3.proofs.Calls.{rules, state, announced-number, withdrawn-number, call-state, refused-leaves, call_kept}
 

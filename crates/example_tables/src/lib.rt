@@ -121,7 +121,7 @@ pub const HIGHEST: u8 = 2;
 // and Lowest-Preference.
 pub const LOWEST: u8 = 3;
 
-// v_es2 of RFC 9785, section 4.1: 100 in PE1, 200 in PE2, 300 in PE3.
+// vES2 of RFC 9785, section 4.1: 100 in PE1, 200 in PE2, 300 in PE3.
 pub fn second_segment(algorithm: u8, dp: bool) -> Table
     ensures { ValidSegment result.words }
 {

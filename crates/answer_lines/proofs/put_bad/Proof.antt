@@ -10,7 +10,6 @@ pub put_bad_spec : {M : Type 1} → statement M
 put_bad_spec =
     tie.close
     (tie.spec
-    (λ c. search rules)
     (λ c κs. search rules)
     (λ c. search rules)
     returns)

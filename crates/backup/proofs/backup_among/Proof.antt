@@ -16,26 +16,26 @@ module _ (start : tie.Start) where
   abbrev method : Method
   method = by_tag start.args.algorithm start.args.tag table.esi
 
-returns : tie.Need-returns
+returns : tie.Need-returns-then-n-lt2
 returns c =
     let counted = c.before.before in
     let start = counted.before.before in
-    let n = counted.count.ensures.0 in
-    let few = c.before.if1.true in
+    let n = counted.count-n.ensures.0 in
+    let few = c.if-n-lt2.true in
     c.refusal.ensures ∙ by-12 (table start).entries (method start) start.args.set start.args.tag (omega (arith, n, few))
 
-returns-2 : tie.Need-returns-2
+returns-2 : tie.Need-returns
 returns-2 c =
     let placed = c.before in
     let counted = placed.before.before in
     let start = counted.before.before in
-    let n = counted.count.ensures.0 in
-    let many = placed.before.if1.false in
+    let n = counted.count-n.ensures.0 in
+    let many = placed.if-n-lt2.false in
     c.named.ensures
-    ∙ by-second (table start).entries (method start) start.args.set start.args.tag _ (omega (arith, n, many)) placed.second-of.ensures
+    ∙ by-second (table start).entries (method start) start.args.set start.args.tag _ (omega (arith, n, many)) placed.second_of-at.ensures
 
-pub backup-among-spec : {M : Type 1} → statement M
-backup-among-spec =
+pub backup_among_spec : {M : Type 1} → statement M
+backup_among_spec =
     tie.close
     (tie.spec
     (λ c κs. search rules)

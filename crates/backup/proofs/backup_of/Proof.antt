@@ -23,7 +23,12 @@ returns : tie.Need-returns
 returns c =
     let chosen = c.before in
     let start = chosen.before.before.before in
-    c.backup-among.ensures ∙ ap (under start) chosen.plain-algorithm.ensures
+    c.backup_among.ensures ∙ ap (under start) chosen.plain_algorithm-algorithm.ensures
 
-pub backup-of-spec : {M : Type 1} → statement M
-backup-of-spec = tie.close (tie.spec (λ c κs. search rules) (λ c κs. search rules) returns)
+pub backup_of_spec : {M : Type 1} → statement M
+backup_of_spec =
+    tie.close
+    (tie.spec
+    (λ c κs. search rules)
+    (λ c κs. search rules)
+    returns)

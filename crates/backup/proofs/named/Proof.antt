@@ -10,8 +10,13 @@ use Rattle.backup.proofs.named.Tie as tie
 returns : tie.Need-returns
 returns c =
     let known = c.before in
-    let a = known.before.before.args in
-    named-backup (get_or (table_in a.t.now).entries a.at no_entry).address _ _ known.family-at.ensures c.words-at.ensures
+    let a = known.args in
+    named-backup (get_or (table_in a.t.now).entries a.at no_entry).address _ _ known.family_at-family.ensures c.words_at-address.ensures
 
-pub named-spec : {M : Type 1} → statement M
-named-spec = tie.close (tie.spec (λ c κs. search rules) (λ c κs. search rules) returns)
+pub named_spec : {M : Type 1} → statement M
+named_spec =
+    tie.close
+    (tie.spec
+    (λ c κs. search rules)
+    (λ c κs. search rules)
+    returns)

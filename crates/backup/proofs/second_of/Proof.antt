@@ -15,28 +15,28 @@ module _ (start : tie.Start) where
   abbrev method : Method
   method = by_tag start.args.algorithm start.args.tag table.esi
 
-place-by-tag-requires : tie.Need-place-by-tag-requires
+place-by-tag-requires : tie.Need-place_by_tag-first-requires
 place-by-tag-requires c κs = let start = c.before in (start.requires.0, two-some _ start.requires.1, start.requires.2, start.requires.3)
 
 -- what is known once the first elected is taken out
-module _ (taken : tie.After-without) where
-  abbrev found : tie.After-place-by-tag
+module _ (taken : tie.After-without-rest) where
+  abbrev found : tie.After-place_by_tag-first
   found = taken.before
 
   abbrev from : tie.Start
   from = found.before.before
 
-place-by-tag-requires-2 : tie.Need-place-by-tag-requires-2
+place-by-tag-requires-2 : tie.Need-place_by_tag-requires
 place-by-tag-requires-2 c κs =
     let taken = c in
     let start = from taken in
     let t = table start in
-    let w = start.pre.0.sound in
-    let first = (found taken).place-by-tag.ensures in (
-      start.pre.0,
-      rest_some t.entries w.short w.rising (method start) _ _ start.pre.1 start.pre.2 _ first _ taken.without.ensures,
-      rest_under t.entries w.short w.rising (method start) _ _ start.pre.1 start.pre.2 _ first _ taken.without.ensures,
-      rest-count t.entries w.short w.rising (method start) _ _ start.pre.1 start.pre.2 _ first _ taken.without.ensures _ start.pre.3,
+    let w = start.requires.0.sound in
+    let first = (found taken).place_by_tag-first.ensures in (
+      start.requires.0,
+      rest_some t.entries w.short w.rising (method start) _ _ start.requires.1 start.requires.2 _ first _ taken.without-rest.ensures,
+      rest_under t.entries w.short w.rising (method start) _ _ start.requires.1 start.requires.2 _ first _ taken.without-rest.ensures,
+      rest-count t.entries w.short w.rising (method start) _ _ start.requires.1 start.requires.2 _ first _ taken.without-rest.ensures _ start.requires.3,
     )
 
 returns : tie.Need-returns
@@ -44,10 +44,16 @@ returns c =
     let taken = c.before in
     let start = from taken in
     let t = table start in
-    let w = start.pre.0.sound in
-    second_at t.entries w.short w.rising (method start) _ _ start.pre.1 start.pre.2 _ (found taken).place-by-tag.ensures _ taken.without.ensures
-    _ c.place-by-tag2.ensures
+    let w = start.requires.0.sound in
+    second_at t.entries w.short w.rising (method start) _ _ start.requires.1 start.requires.2 _ (found taken).place_by_tag-first.ensures _ taken.without-rest.ensures
+    _ c.place_by_tag.ensures
 
-pub second-of-spec : {M : Type 1} → statement M
-second-of-spec =
-    tie.close (tie.spec place-by-tag-requires (λ c κs. search rules) (λ c. let start = from c in omega (arith, start.pre.1, start.pre.3)) place-by-tag-requires-2 returns)
+pub second_of_spec : {M : Type 1} → statement M
+second_of_spec =
+    tie.close
+    (tie.spec
+    place-by-tag-requires
+    (λ c κs. search rules)
+    (λ c. let start = from c in omega (arith, start.requires.1, start.requires.3))
+    place-by-tag-requires-2
+    returns)

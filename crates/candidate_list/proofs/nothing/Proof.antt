@@ -5,7 +5,12 @@ use Rattle.candidate_list.proofs.nothing.Statement.{statement}
 use Rattle.candidate_list.proofs.nothing.Tie as tie
 
 returns : tie.Need-returns
-returns c = let told = c.before.fresh.ensures in loaded-none _ _ told.0 told.1
+returns c = let told = c.fresh-made.ensures in loaded-none _ _ told.0 told.1
 
-pub nothing-spec : {M : Type 1} → statement M
-nothing-spec = tie.close (tie.spec (λ c. search rules) (λ c κs. search rules) returns)
+pub nothing_spec : {M : Type 1} → statement M
+nothing_spec =
+    tie.close
+    (tie.spec
+    (λ c. search rules)
+    (λ c κs. search rules)
+    returns)

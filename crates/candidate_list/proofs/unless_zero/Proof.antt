@@ -5,11 +5,16 @@ use Rattle.candidate_list.proofs.Taken.{zero-nobody, known}
 use Rattle.candidate_list.proofs.unless_zero.Statement.{statement}
 use Rattle.candidate_list.proofs.unless_zero.Tie as tie
 
-returns : tie.Need-returns
-returns c = zero-nobody c.before.before.args.a (sym c.before.is_zero.ensures ∙ c.if1.true)
+returns : tie.Need-returns-then-is_zero
+returns c = zero-nobody c.args.a (sym c.is_zero.ensures ∙ c.if-is_zero.true)
 
-returns-2 : tie.Need-returns-2
-returns-2 c = known c.before.before.args.a (sym c.before.is_zero.ensures ∙ c.if1.false)
+returns-2 : tie.Need-returns
+returns-2 c = known c.args.a (sym c.is_zero.ensures ∙ c.if-is_zero.false)
 
-pub unless-zero-spec : {M : Type 1} → statement M
-unless-zero-spec = tie.close (tie.spec (λ c κs. search rules) returns returns-2)
+pub unless_zero_spec : {M : Type 1} → statement M
+unless_zero_spec =
+    tie.close
+    (tie.spec
+    (λ c κs. search rules)
+    returns
+    returns-2)

@@ -9,11 +9,16 @@ use Rattle.circuit_calls.proofs.announce_circuit.Tie as tie
 
 returns : tie.Need-returns
 returns c =
-    let told = c.before.before.announce.ensures in
-    let a = c.before.before.before.before.before.args in
+    let told = c.announce.ensures in
+    let a = c.args in
     let l = circuits_in a.t.now in
     let call = announce-changes l a.scope a.address _ _ told.0 in
     (told.0, (told.1, (call, follows l (announce a.scope a.address) call.0 call.1)))
 
-pub announce-circuit-spec : {M : Type 1} → statement M
-announce-circuit-spec = tie.close (tie.spec (λ c κs. search rules) (λ c. search rules) returns)
+pub announce_circuit_spec : {M : Type 1} → statement M
+announce_circuit_spec =
+    tie.close
+    (tie.spec
+    (λ c κs. search rules)
+    (λ c. search rules)
+    returns)

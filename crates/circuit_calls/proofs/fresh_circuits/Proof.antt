@@ -7,5 +7,9 @@ use Rattle.circuit_calls.proofs.fresh_circuits.Tie as tie
 returns : tie.Need-returns
 returns c = let told = c.fresh.ensures in (told.0, (told.1, (starts _ told.0, demand3)))
 
-pub fresh-circuits-spec : {M : Type 1} → statement M
-fresh-circuits-spec = tie.close (tie.spec (λ c κs. search rules) returns)
+pub fresh_circuits_spec : {M : Type 1} → statement M
+fresh_circuits_spec =
+    tie.close
+    (tie.spec
+    (λ c κs. search rules)
+    returns)

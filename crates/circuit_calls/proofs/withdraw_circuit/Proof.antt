@@ -9,11 +9,16 @@ use Rattle.circuit_calls.proofs.withdraw_circuit.Tie as tie
 
 returns : tie.Need-returns
 returns c =
-    let told = c.before.before.withdraw.ensures in
-    let a = c.before.before.before.before.before.args in
+    let told = c.withdraw.ensures in
+    let a = c.args in
     let l = circuits_in a.t.now in
     let call = withdraw-changes l a.scope a.address _ _ told.0 in
     (told.0, (told.1, (call, follows l (withdraw a.scope a.address) call.0 call.1)))
 
-pub withdraw-circuit-spec : {M : Type 1} → statement M
-withdraw-circuit-spec = tie.close (tie.spec (λ c κs. search rules) (λ c. search rules) returns)
+pub withdraw_circuit_spec : {M : Type 1} → statement M
+withdraw_circuit_spec =
+    tie.close
+    (tie.spec
+    (λ c κs. search rules)
+    (λ c. search rules)
+    returns)

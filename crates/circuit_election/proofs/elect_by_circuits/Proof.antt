@@ -33,7 +33,7 @@ module _ (start : tie.Start) where
   list = ready_routers (circuits_in start.args.circuits.now) start.args.tag table.entries
 
   short : length list ≤ 64
-  short = omega (arith, length-routers (circuits_in start.args.circuits.now) start.args.tag table.entries, start.pre.0.sound.short)
+  short = omega (arith, length-routers (circuits_in start.args.circuits.now) start.args.tag table.entries, start.requires.0.sound.short)
 
   -- the promises, from those of the plain election with this list
   abbrev Promised : Answer → Type 0
@@ -42,48 +42,48 @@ module _ (start : tie.Start) where
   not-long : {r : Answer} → Promised r → r.number ≡ 11 → ⊥
   not-long e h = never-long settings plain table.esi table.entries start.args.tag list short (sym (ap (λ (r : Answer). r.number) e.0) ∙ h)
 
-returns : tie.Need-returns
+returns : tie.Need-returns-then-is_reserved
 unfolding elect_over
 returns c =
     let tested = c.before.before in
     let start = tested.before.before.before.before in
     let t = table start in
     let e = promised (settings start) plain t start.requires.0.sound start.args.tag (list start)
-    (elects-10 (settings start) plain t.esi t.entries start.args.tag (list start) (sym tested.is-reserved.ensures ∙ c.before.if1.true)) in
+    (elects-10 (settings start) plain t.esi t.entries start.args.tag (list start) (sym tested.is_reserved.ensures ∙ c.if-is_reserved.true)) in
     rw c.refusal.ensures (e.0, (e.1, (e.2, (e.3, not-long start e))))
 
 -- what is known of the candidate set
-module _ (j : tie.After-circuit-candidates) where
-  abbrev passed : tie.Else1
+module _ (j : tie.After-circuit_candidates-set) where
+  abbrev passed : tie.Else-is_reserved
   passed = j.before.before
 
   abbrev from : tie.Start
   from = passed.before.before.before.before.before
 
   free : reserved_tag from.args.tag ≡ false
-  free = sym passed.before.is-reserved.ensures ∙ passed.if1.left
+  free = sym passed.is_reserved.ensures ∙ passed.if-is_reserved.false
 
-returns-2 : tie.Need-returns-2
+returns-2 : tie.Need-returns-then-set-eq0
 unfolding elect_over right_lengths
 returns-2 c =
     let j = c.before.before in
     let start = from j in
-    let e = elects-12 (settings start) plain (table start) start.pre.0.sound start.args.tag (list start) _ j.before.in_use.ensures
-    (free j) (short start) refl _ j.circuit-candidates.ensures c.before.if2.true in
-    rw c.refusal2.ensures (e.0, (e.1, (e.2, (e.3, not-long start e))))
+    let e = elects-12 (settings start) plain (table start) start.requires.0.sound start.args.tag (list start) _ j.in_use-u.ensures
+    (free j) (short start) refl _ j.circuit_candidates-set.ensures c.if-set-eq0.true in
+    rw c.refusal-then-set-eq0.ensures (e.0, (e.1, (e.2, (e.3, not-long start e))))
 
-plain-algorithm-requires : tie.Need-plain-algorithm-requires
+plain-algorithm-requires : tie.Need-plain_algorithm-algorithm-requires
 plain-algorithm-requires c κs = let j = c.before.before in ((from j).requires.1, free j)
 
-place-by-tag-requires : tie.Need-place-by-tag-requires
+place-by-tag-requires : tie.Need-place_by_tag-at-requires
 place-by-tag-requires c κs =
     let counted = c.before in
     let tested = counted.before in
     let j = tested.before in
     let start = from j in
-    (start.pre.0, tested.if2.false, set-in-use (table start) start.pre.0.sound _ (list start) _ j.circuit-candidates.ensures, counted.count.ensures.0)
+    (start.requires.0, tested.if-set-eq0.false, set-in-use (table start) start.requires.0.sound _ (list start) _ j.circuit_candidates-set.ensures, counted.count-n.ensures.0)
 
-returns-3 : tie.Need-returns-3
+returns-3 : tie.Need-returns
 unfolding elect_over right_lengths agreed_on number_for
 returns-3 c =
     let placed = c.before in
@@ -91,13 +91,13 @@ returns-3 c =
     let tested = chosen.before.before in
     let j = tested.before in
     let start = from j in
-    let e = elects-tag (settings start) plain (table start) start.pre.0.sound start.args.tag (list start) _ j.before.in_use.ensures
-    (free j) (short start) refl _ j.circuit-candidates.ensures _ tested.if2.false
-    0 _ refl refl chosen.plain-algorithm.ensures placed.place-by-tag.ensures c.named.ensures in
+    let e = elects-tag (settings start) plain (table start) start.requires.0.sound start.args.tag (list start) _ j.in_use-u.ensures
+    (free j) (short start) refl _ j.circuit_candidates-set.ensures _ tested.if-set-eq0.false
+    0 _ refl refl chosen.plain_algorithm-algorithm.ensures placed.place_by_tag-at.ensures c.named.ensures in
     (e.0, (e.1, (e.2, (e.3, not-long start e))))
 
-pub elect-by-circuits-spec : {M : Type 1} → statement M
-elect-by-circuits-spec =
+pub elect_by_circuits_spec : {M : Type 1} → statement M
+elect_by_circuits_spec =
     tie.close
     (tie.spec
     (λ c κs. search rules)

@@ -10,12 +10,12 @@ returns : tie.Need-returns
 returns c =
     let start = c.before.before.before.before.before.before in
     let a = start.args in
-    let told = c.before.before.set-ranges.ensures in
+    let told = c.set_ranges.ensures in
     let r = ranges-told a.s.now start.requires _ _ told.1 a.run.now told.0 in
     (r.0, (r.1, (r.2, r.3)))
 
-pub set-ranges-spec : {M : Type 1} → statement M
-set-ranges-spec =
+pub set_ranges_spec : {M : Type 1} → statement M
+set_ranges_spec =
     tie.close
     (tie.spec
     (λ c. let s = c.before.before in omega (arith, length-state s.args.s.now s.requires))

@@ -10,24 +10,24 @@ use borrow.Author.Rules.{rules}
 use Rattle.turns.proofs.announce.Statement.{statement}
 use Rattle.turns.proofs.announce.Tie as tie
 
-shared-slice-read-total : tie.Need-shared-slice-read-total
+shared-slice-read-total : tie.Need-bounds-payload-20
 shared-slice-read-total c = let s = c.before.before.before.before in omega (arith, s.requires.1, total-least (get_or s.args.payload.now 20 0))
 
-slice-aggregate-announce : tie.Need-slice-aggregate-announce
+slice-aggregate-announce : tie.Need-slice_bounds-announce-end
 slice-aggregate-announce c =
     let called = c.before.before in
-    let s = c.before.before.before.before.before.before.before in
-    sym (length-take-le called.total.result s.args.payload.now (rw called.total.ensures s.requires.1))
+    let s = c in
+    sym (length-take-le c.total-n.result s.args.payload.now (rw c.total-n.ensures s.requires.1))
 
 returns : tie.Need-returns
 returns c =
     let an = c.before.before.before.before.before.before in
-    let told = an.announce.ensures in
-    let s = c.before.before.before.before.before.before.before.before.before.before.before.before.before.before.before in
-    stepped-announce (table_in s.args.t.now) s.args.payload.now _ c.before.before.before.before.before.before.before.before.before.before.total.ensures told.0 told.1.0 c.before.before.put-read.ensures
+    let told = an.announce-verdict.ensures in
+    let s = c in
+    stepped-announce (table_in s.args.t.now) s.args.payload.now _ c.total-n.ensures told.0 told.1.0 c.put_read-end.ensures
 
-pub announce-spec : {M : Type 1} → statement M
-announce-spec =
+pub announce_spec : {M : Type 1} → statement M
+announce_spec =
     tie.close
     (tie.spec
     shared-slice-read-total

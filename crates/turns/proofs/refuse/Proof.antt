@@ -9,7 +9,12 @@ use Rattle.turns.proofs.refuse.Tie as tie
 returns : tie.Need-returns
 returns c =
     let call = c.before.before in
-    λ w k. record { put = written call.put-bad.ensures (omega arith); next = refl; kept = k }
+    λ w k. record { put = written call.put_bad-end.ensures (omega arith); next = refl; kept = k }
 
-pub refuse-spec : {M : Type 1} → statement M
-refuse-spec = tie.close (tie.spec (λ c κs. search rules) (λ c. search rules) returns)
+pub refuse_spec : {M : Type 1} → statement M
+refuse_spec =
+    tie.close
+    (tie.spec
+    (λ c κs. search rules)
+    (λ c. search rules)
+    returns)

@@ -15,10 +15,10 @@ returns c =
     let u = c.before.before.before.before.before.before.before.before in
     let s = c.before.before.before.before.before.before.before.before.before.before.before.before in
     let p = s.args.payload.now in
-    stepped-withdraw (table_in s.args.t.now) s.args.v6 p _ (u.address-at.ensures ∙ ap (address_of s.args.v6) (take_all (size_of s.args.v6) p (omega (arith, s.requires.1)))) w.withdraw.ensures.0 w.withdraw.ensures.1 c.before.before.put-line.ensures
+    stepped-withdraw (table_in s.args.t.now) s.args.v6 p _ (u.address_at-address.ensures ∙ ap (address_of s.args.v6) (take_all (size_of s.args.v6) p (omega (arith, s.requires.1)))) w.withdraw-number.ensures.0 w.withdraw-number.ensures.1 c.put_line-end.ensures
 
-pub withdraw-spec : {M : Type 1} → statement M
-withdraw-spec =
+pub withdraw_spec : {M : Type 1} → statement M
+withdraw_spec =
     tie.close
     (tie.spec
     (λ c κs. search rules)
