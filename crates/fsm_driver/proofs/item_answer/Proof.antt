@@ -7,27 +7,34 @@ use Rattle.fsm_driver.specs.Items.{item_answer}
 use Rattle.fsm_driver.proofs.item_answer.Statement.{statement}
 use Rattle.fsm_driver.proofs.item_answer.Tie as tie
 
-returns : tie.Need-returns
+returns : tie.Need-returns-then-kind-eq0
 unfolding item_answer
 returns c =
     let tested = c.before in
-    let kind = tested.before.args.kind in
-    rw (eq-eqb kind 0 tested.if1.true) c.drive-number.ensures
+    let kind = tested.args.kind in
+    rw (eq-eqb kind 0 tested.if-kind-eq0.true) c.drive_number.ensures
 
-returns-2 : tie.Need-returns-2
+returns-2 : tie.Need-returns-then-kind-eq1
 unfolding item_answer
 returns-2 c =
     let tested = c.before in
-    let kind = tested.before.before.args.kind in
-    rw (ne_eqb kind 0 tested.before.if1.false, eq-eqb kind 1 tested.if2.true) (ap (λ (m : Machine). record { number = 0; machine = m }) c.tick.ensures)
+    let kind = tested.args.kind in
+    rw (ne_eqb kind 0 tested.if-kind-eq0.false, eq-eqb kind 1 tested.if-kind-eq1.true) (ap (λ (m : Machine). record { number = 0; machine = m }) c.tick.ensures)
 
-returns-3 : tie.Need-returns-3
+returns-3 : tie.Need-returns
 unfolding item_answer
 returns-3 c =
     let tested = c.before in
-    let kind = tested.before.before.args.kind in
-    rw (ne_eqb kind 0 tested.before.if1.false, ne_eqb kind 1 tested.if2.false) c.make.ensures.0
+    let kind = tested.args.kind in
+    rw (ne_eqb kind 0 tested.if-kind-eq0.false, ne_eqb kind 1 tested.if-kind-eq1.false) c.make.ensures.0
 
-pub item-answer-spec : {M : Type 1} → statement M
-item-answer-spec =
-    tie.close (tie.spec (λ c κs. search rules) returns (λ c κs. search rules) returns-2 (λ c κs. search rules) returns-3)
+pub item_answer_spec : {M : Type 1} → statement M
+item_answer_spec =
+    tie.close
+    (tie.spec
+    (λ c κs. search rules)
+    returns
+    (λ c κs. search rules)
+    returns-2
+    (λ c κs. search rules)
+    returns-3)

@@ -8,10 +8,10 @@ use Rattle.fsm_driver.proofs.octets_of.Tie as tie
 returns : tie.Need-returns
 unfolding octets_of item_octets
 returns c =
-    rw (c.state-number.ensures, c.before.before.of-u32.ensures, c.before.of-u322.ensures)
+    rw (c.state_number.ensures, c.of_u32-w.ensures, c.of_u32-t.ensures)
 
-pub octets-of-spec : {M : Type 1} → statement M
-octets-of-spec =
+pub octets_of_spec : {M : Type 1} → statement M
+octets_of_spec =
     tie.close
     (tie.spec
     (λ c κs. search rules)
