@@ -13,6 +13,7 @@ use std::io;
 use std::io::{ErrorKind, Read};
 
 // The answer to an item.
+#[tactic(auto, unfolding(crate::specs::Items::item_answer))]
 fn item_answer(m: Machine, kind: u8, event: u8, number: u32) -> Answer
     ensures { result ≡ item_answer m kind event number }
 {
@@ -29,6 +30,7 @@ fn item_answer(m: Machine, kind: u8, event: u8, number: u32) -> Answer
 }
 
 // The ten octets that are written for an answer.
+#[tactic(auto, unfolding(octets::specs::Octets::octets_of, crate::specs::Items::item_octets))]
 fn octets_of(a: Answer) -> [u8; 10]
     ensures { result ≡ item_octets a }
 {
