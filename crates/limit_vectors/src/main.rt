@@ -23,10 +23,8 @@ fn sixty_four() -> Table
     ensures { ValidSegment result.words }
 {
     let mut t = empty_table();
-    let mut n = 1;
-    while n < 65 {
+    for n in 1..65 {
         t = with(t, n, 0, 0, false);
-        n += 1;
     }
     t
 }
