@@ -119,21 +119,11 @@ fn ties(rt: &impl Print) -> io::Result<()> {
 // administrative preference; the link is mended, and the same step up gives 500 back.
 fn bandwidth(rt: &impl Print) -> io::Result<()> {
     let lost = bandwidth::add_step(500, -400);
-    show_number(
-        rt,
-        b"4.1 (f): 500 lowered by 400",
-        lost.preference as u64,
-        100,
-    )?;
+    let lowered = lost.preference;
+    show_number(rt, b"4.1 (f): 500 lowered by 400", lowered as u64, 100)?;
     let vacant = without(first_segment(HIGHEST), 1);
     let words = vacant.words;
-    let sent = segment::returning(
-        &words,
-        example_tables::router(1),
-        HIGHEST,
-        lost.preference,
-        false,
-    );
+    let sent = segment::returning(&words, example_tables::router(1), HIGHEST, lowered, false);
     show_pair(
         rt,
         b"4.1 (f): v_es1, Highest, PE1 sends",
@@ -149,7 +139,7 @@ fn bandwidth(rt: &impl Print) -> io::Result<()> {
         elected(low, 1),
         2,
     )?;
-    let mended = bandwidth::add_step(lost.preference, 400);
+    let mended = bandwidth::add_step(lowered, 400);
     let high = with(low, 1, HIGHEST, mended.preference, false);
     show_number(
         rt,
