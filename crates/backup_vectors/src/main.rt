@@ -1,4 +1,4 @@
-// The second in line: v_es2 of RFC 9785, section 4.1, with its backup under Highest and Lowest and for a range of tags, and that the backup takes over; a tie under algorithm 1; run and printed beside what it should be.
+// The second in line: vES2 of RFC 9785, section 4.1, with its backup under Highest and Lowest and for a range of tags, and that the backup takes over; a tie under algorithm 1; run and printed beside what it should be.
 #![tactic(auto)]
 
 ghost use Rattle.segment_state.specs.State.{ValidSegment};

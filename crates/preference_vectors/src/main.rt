@@ -8,7 +8,7 @@ use example_tables::{HIGHEST, LOWEST, Table, elected, empty_table, second_segmen
 use std::io;
 use vector_lines::{show_number, show_pair};
 
-// v_es1: 500 in PE1, 255 in PE2.
+// vES1: 500 in PE1, 255 in PE2.
 fn first_segment(algorithm: u8) -> Table
     ensures { ValidSegment result.words }
 {
@@ -20,25 +20,25 @@ fn first_segment(algorithm: u8) -> Table
 fn order(rt: &impl Print) -> io::Result<()> {
     show_number(
         rt,
-        b"4.1 (c): v_es1, Highest",
+        b"4.1 (c): vES1, Highest",
         elected(first_segment(HIGHEST), 1),
         1,
     )?;
     show_number(
         rt,
-        b"4.1 (c): v_es2, Highest",
+        b"4.1 (c): vES2, Highest",
         elected(second_segment(HIGHEST, false), 1),
         3,
     )?;
     show_number(
         rt,
-        b"4.1 (c): v_es1, Lowest",
+        b"4.1 (c): vES1, Lowest",
         elected(first_segment(LOWEST), 1),
         2,
     )?;
     show_number(
         rt,
-        b"4.1 (c): v_es2, Lowest",
+        b"4.1 (c): vES2, Lowest",
         elected(second_segment(LOWEST, false), 1),
         1,
     )
@@ -49,13 +49,13 @@ fn mixed(rt: &impl Print) -> io::Result<()> {
     let t = with(first_segment(HIGHEST), 2, LOWEST, 255, false);
     show_number(
         rt,
-        b"4.1 (c): v_es1, Highest and Lowest, tag 10",
+        b"4.1 (c): vES1, Highest and Lowest, tag 10",
         elected(t, 10),
         1,
     )?;
     show_number(
         rt,
-        b"4.1 (c): v_es1, Highest and Lowest, tag 11",
+        b"4.1 (c): vES1, Highest and Lowest, tag 11",
         elected(t, 11),
         2,
     )
@@ -66,14 +66,14 @@ fn maintenance(rt: &impl Print) -> io::Result<()> {
     let highest = with(second_segment(HIGHEST, true), 3, HIGHEST, 50, true);
     show_number(
         rt,
-        b"4.1 (d): v_es2, Highest, PE3 lowered to 50",
+        b"4.1 (d): vES2, Highest, PE3 lowered to 50",
         elected(highest, 1),
         2,
     )?;
     let lowest = with(second_segment(LOWEST, true), 1, LOWEST, 250, true);
     show_number(
         rt,
-        b"4.1 (d): v_es2, Lowest, PE1 raised to 250",
+        b"4.1 (d): vES2, Lowest, PE1 raised to 250",
         elected(lowest, 1),
         2,
     )
@@ -126,7 +126,7 @@ fn bandwidth(rt: &impl Print) -> io::Result<()> {
     let sent = segment::returning(&words, example_tables::router(1), HIGHEST, lowered, false);
     show_pair(
         rt,
-        b"4.1 (f): v_es1, Highest, PE1 sends",
+        b"4.1 (f): vES1, Highest, PE1 sends",
         sent.preference,
         sent.dp,
         100,
@@ -135,7 +135,7 @@ fn bandwidth(rt: &impl Print) -> io::Result<()> {
     let low = with(vacant, 1, HIGHEST, sent.preference, sent.dp);
     show_number(
         rt,
-        b"4.1 (f): v_es1, Highest, PE1 lowered to 100",
+        b"4.1 (f): vES1, Highest, PE1 lowered to 100",
         elected(low, 1),
         2,
     )?;
@@ -143,7 +143,7 @@ fn bandwidth(rt: &impl Print) -> io::Result<()> {
     let high = with(low, 1, HIGHEST, mended.preference, false);
     show_number(
         rt,
-        b"4.1 (f): v_es1, Highest, PE1 raised by 400",
+        b"4.1 (f): vES1, Highest, PE1 raised by 400",
         elected(high, 1),
         1,
     )

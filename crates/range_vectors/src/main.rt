@@ -68,7 +68,7 @@ fn show_returns(rt: &impl Print, t: &[u32]) -> io::Result<()>
     show_sent(rt, b"4.3: with (50, 1)", t, 50, 100, false)
 }
 
-// Section 4.3: v_es2 with Lowest-Preference for tag 2. PE3 fails,
+// Section 4.3: vES2 with Lowest-Preference for tag 2. PE3 fails,
 fn fails(rt: &impl Print) -> io::Result<Table>
     ensures { IfOk result (λ made. ValidSegment made.words) }
 {
