@@ -7,7 +7,7 @@ ghost use Rattle.std.specs.Prelude.{◌≤◌, ◌<◌, length};
 ghost use Rattle.layout.specs.Words.{Valid};
 
 use blocks::Next;
-use libc::{STDERR_FILENO, STDIN_FILENO, STDOUT_FILENO};
+use std::io::Read;
 use turns::Phase;
 
 // Where the program stands: the phase of the run, how many octets of the block are filled, and whether there is more to do.
@@ -19,35 +19,48 @@ struct Work {
 }
 
 // Writes answer lines, and answers whether all of them were written.
-fn write_lines(made: &[u8]) -> bool {
-    if io::write_all(STDOUT_FILENO, made) {
+fn write_lines(rt: &(impl Print + Eprint), made: &[u8]) -> bool {
+    if rt.write_all(made).is_ok() {
         return true;
     }
-    io::write_all(STDERR_FILENO, b"bench: writing to standard output failed\n");
+    let _ = rt.eprintln("bench: writing to standard output failed");
     false
 }
 
 // The input has ended, and the octets that are left are no whole record.
-fn end(phase: Phase, rest: &[u8], out: &mut [u8]) {
+fn end(rt: &(impl Print + Eprint), phase: Phase, rest: &[u8], out: &mut [u8]) {
     let wrote = run_ends::finish(phase, rest, out);
-    write_lines(&out[..wrote]);
+    write_lines(rt, &out[..wrote]);
+}
+
+// Reads octets to the front of a run, and answers how many. A read that fails is told, and answers none.
+fn read_some(rt: &impl Eprint, input: &mut impl Read, room: &mut [u8]) -> usize
+    ensures { result ≤ length room.new }
+{
+    match input.read(room) {
+        Ok(got) => got,
+        Err(_) => {
+            let _ = rt.eprintln("bench: reading from standard input failed");
+            0
+        }
+    }
 }
 
 // Reads more octets behind those that fill the block. There is room for one, so a read of none is the end of the input; a read that fails counts as the end
 // too.
-fn read_more(phase: Phase, block: &mut [u8], filled: usize, out: &mut [u8]) -> Work
+fn read_more(
+    rt: &(impl Print + Eprint),
+    input: &mut impl Read,
+    phase: Phase,
+    block: &mut [u8],
+    filled: usize,
+    out: &mut [u8],
+) -> Work
     requires { filled < length block.old }
 {
-    let got = libc::read(STDIN_FILENO, &mut block[filled..]);
-    if got < 0 {
-        io::write_all(
-            STDERR_FILENO,
-            b"bench: reading from standard input failed\n",
-        );
-    }
-    let more = io::count(got, &block[filled..]);
+    let more = read_some(rt, input, &mut block[filled..]);
     if more == 0 {
-        end(phase, &block[..filled], out);
+        end(rt, phase, &block[..filled], out);
         return Work {
             phase,
             filled,
@@ -63,7 +76,15 @@ fn read_more(phase: Phase, block: &mut [u8], filled: usize, out: &mut [u8]) -> W
 }
 
 // One turn: the block is taken, what it makes is written at once, and more is read where that is next. The block has room for the longest record.
-fn turn(t: &mut [u32], phase: Phase, block: &mut [u8], filled: usize, out: &mut [u8]) -> Work
+fn turn(
+    rt: &(impl Print + Eprint),
+    input: &mut impl Read,
+    t: &mut [u32],
+    phase: Phase,
+    block: &mut [u8],
+    filled: usize,
+    out: &mut [u8],
+) -> Work
     requires { (259 ≤ length block.old) × Valid t.old }
     ensures { Valid t.new }
 {
@@ -72,7 +93,7 @@ fn turn(t: &mut [u32], phase: Phase, block: &mut [u8], filled: usize, out: &mut 
     let left = taken.left;
     let wrote = taken.wrote;
     let next = taken.next;
-    if !write_lines(&out[..wrote]) {
+    if !write_lines(rt, &out[..wrote]) {
         return Work {
             phase: last,
             filled: left,
@@ -90,14 +111,15 @@ fn turn(t: &mut [u32], phase: Phase, block: &mut [u8], filled: usize, out: &mut 
             filled: left,
             going: true,
         },
-        Next::Read => read_more(last, block, left, out),
+        Next::Read => read_more(rt, input, last, block, left, out),
     }
 }
 
-// A proved loop has to end, and nothing says that the input does: the turns are counted down from a number that no run uses up.
-fn run(block: &mut [u8], out: &mut [u8])
+// A proved loop has to end, and nothing says that the input does: the turns are counted up to a number that no run reaches.
+fn run(rt: &(impl Input + Print + Eprint), block: &mut [u8], out: &mut [u8])
     requires { 259 ≤ length block.old }
 {
+    let mut input = rt.reader();
     let begun = run_ends::start();
     let first = begun.phase;
     let mut t = begun.table;
@@ -106,17 +128,18 @@ fn run(block: &mut [u8], out: &mut [u8])
         filled: 0,
         going: true,
     };
-    let mut turns = u64::MAX;
-    while turns > 0 && work.going {
+    for _ in 0..u64::MAX {
+        if !work.going {
+            return;
+        }
         let phase = work.phase;
         let filled = work.filled;
-        work = turn(&mut t, phase, block, filled, out);
-        turns -= 1;
+        work = turn(rt, &mut input, &mut t, phase, block, filled, out);
     }
 }
 
-fn main() {
-    let mut block = io::large_buffer();
-    let mut out = io::large_buffer();
-    run(&mut block, &mut out);
+fn main(rt: HostRuntime) {
+    let mut block = [0u8; 65536];
+    let mut out = [0u8; 65536];
+    run(&rt, &mut block, &mut out);
 }

@@ -6,6 +6,7 @@ ghost use Rattle.circuit_layout.specs.Circuits.{ValidCircuits};
 
 use example_tables::{Table, empty_table, route_of, router};
 use segment::Scope;
+use std::io;
 use vector_lines::show_number;
 
 // The two tags of the example.
@@ -47,74 +48,90 @@ fn come_up(c: &mut [u32], n: u8)
 }
 
 // Prints the router that is elected for a tag, 0 for none, and N, beside what they should be.
-fn show(name: &[u8], t: &[u32], c: &[u32], tag: u32, wanted: u64, wanted_n: u64)
+fn show(
+    rt: &impl Print,
+    name: &[u8],
+    t: &[u32],
+    c: &[u32],
+    tag: u32,
+    wanted: u64,
+    wanted_n: u64,
+) -> io::Result<()>
     requires { ValidSegment t.now × ValidCircuits c.now }
 {
     let answer = segment::elect_by_circuits(t, c, tag);
     let address = answer.address;
-    show_number(name, (address[0] % 256) as u64, wanted);
-    show_number(b"  candidates", answer.n as u64, wanted_n);
+    show_number(rt, name, (address[0] % 256) as u64, wanted)?;
+    show_number(rt, b"  candidates", answer.n as u64, wanted_n)
 }
 
 // All three come up.
-fn all_up(t: &[u32], c: &mut [u32])
+fn all_up(rt: &impl Print, t: &[u32], c: &mut [u32]) -> io::Result<()>
     requires { ValidSegment t.now × ValidCircuits c.old }
     ensures { ValidCircuits c.new }
 {
-    show(b"no A-D route stands", t, c, FIRST, 0, 0);
+    show(rt, b"no A-D route stands", t, c, FIRST, 0, 0)?;
     come_up(c, 1);
     come_up(c, 2);
     come_up(c, 3);
-    show(b"all are up: tag 100", t, c, FIRST, 2, 3);
-    show(b"all are up: tag 200", t, c, SECOND, 3, 3);
+    show(rt, b"all are up: tag 100", t, c, FIRST, 2, 3)?;
+    show(rt, b"all are up: tag 200", t, c, SECOND, 3, 3)
 }
 
 // Router 2 loses its circuit for one tag.
-fn circuit_down(t: &[u32], c: &mut [u32])
+fn circuit_down(rt: &impl Print, t: &[u32], c: &mut [u32]) -> io::Result<()>
     requires { ValidSegment t.now × ValidCircuits c.old }
     ensures { ValidCircuits c.new }
 {
     segment::withdraw_circuit(c, Scope::Instance(FIRST), router(2));
-    show(b"router 2 loses tag 100: tag 100", t, c, FIRST, 1, 2);
-    show(b"router 2 loses tag 100: tag 200", t, c, SECOND, 3, 3);
+    show(rt, b"router 2 loses tag 100: tag 100", t, c, FIRST, 1, 2)?;
+    show(rt, b"router 2 loses tag 100: tag 200", t, c, SECOND, 3, 3)
 }
 
 // Router 3 loses its link to the site, and gets it back: its per-instance routes stood all the time.
-fn link_down(t: &[u32], c: &mut [u32])
+fn link_down(rt: &impl Print, t: &[u32], c: &mut [u32]) -> io::Result<()>
     requires { ValidSegment t.now × ValidCircuits c.old }
     ensures { ValidCircuits c.new }
 {
     segment::withdraw_circuit(c, Scope::Segment, router(3));
-    show(b"router 3 loses the segment: tag 200", t, c, SECOND, 1, 2);
+    show(
+        rt,
+        b"router 3 loses the segment: tag 200",
+        t,
+        c,
+        SECOND,
+        1,
+        2,
+    )?;
     segment::announce_circuit(c, Scope::Segment, router(3));
-    show(b"router 3 is back: tag 200", t, c, SECOND, 3, 3);
+    show(rt, b"router 3 is back: tag 200", t, c, SECOND, 3, 3)
 }
 
 // Announced again, withdrawn again, and a reserved tag.
-fn numbers(c: &mut [u32])
+fn numbers(rt: &impl Print, c: &mut [u32]) -> io::Result<()>
     requires { ValidCircuits c.old }
 {
     let again = segment::announce_circuit(c, Scope::Segment, router(3));
-    show_number(b"announced again", again as u64, 0);
+    show_number(rt, b"announced again", again as u64, 0)?;
     let gone = segment::withdraw_circuit(c, Scope::Instance(FIRST), router(2));
-    show_number(b"withdrawn again", gone as u64, 9);
+    show_number(rt, b"withdrawn again", gone as u64, 9)?;
     let reserved = segment::announce_circuit(c, Scope::Instance(0), router(2));
-    show_number(b"a reserved tag", reserved as u64, 10);
+    show_number(rt, b"a reserved tag", reserved as u64, 10)
 }
 
 // The whole example, upon a fresh table of A-D routes.
-fn play(t: &[u32])
+fn play(rt: &impl Print, t: &[u32]) -> io::Result<()>
     requires { ValidSegment t.now }
 {
     let mut c = segment::fresh_circuits();
-    all_up(t, &mut c);
-    circuit_down(t, &mut c);
-    link_down(t, &mut c);
-    numbers(&mut c);
+    all_up(rt, t, &mut c)?;
+    circuit_down(rt, t, &mut c)?;
+    link_down(rt, t, &mut c)?;
+    numbers(rt, &mut c)
 }
 
-fn main() {
+fn main(rt: HostRuntime) -> io::Result<()> {
     let site = three_routers();
     let t = site.words;
-    play(&t);
+    play(&rt, &t)
 }

@@ -3,11 +3,11 @@
 // and `compaction`; here octets are read and handed on, and the lines that the records print are not written. A log of any length is taken in constant memory.
 #![tactic(auto)]
 
-ghost use Rattle.std.specs.Prelude.{◌≤◌, ◌<◌, length};
+ghost use Rattle.std.specs.Prelude.{◌≤◌, ◌<◌, length, IfSome};
 ghost use Rattle.layout.specs.Words.{Valid};
 
 use blocks::Next;
-use libc::{STDERR_FILENO, STDIN_FILENO, STDOUT_FILENO};
+use std::io::Read;
 use turns::Phase;
 
 // Where the program stands: the phase of the run, how many octets of the block are filled, and whether there is more to do.
@@ -19,82 +19,100 @@ struct Work {
 }
 
 // Says that the log is none that can be made short.
-fn refuse() {
-    io::write_all(
-        STDERR_FILENO,
-        b"compact: nothing is written: the log prints x 16, or its first record is refused\n",
+fn refuse(rt: &impl Eprint) {
+    let _ = rt.eprintln(
+        "compact: nothing is written: the log prints x 16, or its first record is refused",
     );
 }
 
 // Writes the records of a table.
-fn write_short(t: &[u32], out: &mut [u8])
+fn write_short(rt: &(impl Print + Eprint), t: &[u32], out: &mut [u8])
     requires { Valid t.now }
 {
     let told = compaction::write_log(t, out);
     let length = told.length;
     if told.number != 0 {
-        refuse();
+        refuse(rt);
         return;
     }
-    if !io::write_all(STDOUT_FILENO, &out[..length]) {
-        io::write_all(
-            STDERR_FILENO,
-            b"compact: writing to standard output failed\n",
-        );
+    if rt.write_all(&out[..length]).is_err() {
+        let _ = rt.eprintln("compact: writing to standard output failed");
     }
 }
 
 // The log has ended, with so many octets left that are no whole record.
-fn end(t: &[u32], phase: Phase, left: usize, out: &mut [u8])
+fn end(rt: &(impl Print + Eprint), t: &[u32], phase: Phase, left: usize, out: &mut [u8])
     requires { Valid t.now }
 {
     if left != 0 {
-        refuse();
+        refuse(rt);
         return;
     }
     match phase {
         Phase::Start => {}
-        Phase::Running => write_short(t, out),
-        Phase::Ended => refuse(),
+        Phase::Running => write_short(rt, t, out),
+        Phase::Ended => refuse(rt),
+    }
+}
+
+// Reads octets to the front of a run, and answers how many. A read that fails is told, and answers nothing.
+fn read_some(rt: &impl Eprint, input: &mut impl Read, room: &mut [u8]) -> Option<usize>
+    ensures { IfSome result (λ n. n ≤ length room.new) }
+{
+    match input.read(room) {
+        Ok(got) => Some(got),
+        Err(_) => {
+            let _ = rt.eprintln("compact: nothing is written: reading from standard input failed");
+            None
+        }
     }
 }
 
 // Reads more octets behind those that fill the block. There is room for one, so a read of none is the end of the log. Where a read fails nothing is written: a log that was not read to its end is not
 // made short.
-fn read_more(t: &[u32], phase: Phase, block: &mut [u8], filled: usize, out: &mut [u8]) -> Work
+fn read_more(
+    rt: &(impl Print + Eprint),
+    input: &mut impl Read,
+    t: &[u32],
+    phase: Phase,
+    block: &mut [u8],
+    filled: usize,
+    out: &mut [u8],
+) -> Work
     requires { (filled < length block.old) × Valid t.now }
 {
-    let got = libc::read(STDIN_FILENO, &mut block[filled..]);
-    if got < 0 {
-        io::write_all(
-            STDERR_FILENO,
-            b"compact: nothing is written: reading from standard input failed\n",
-        );
-        return Work {
+    match read_some(rt, input, &mut block[filled..]) {
+        None => Work {
             phase,
             filled,
             going: false,
-        };
-    }
-    let more = io::count(got, &block[filled..]);
-    if more == 0 {
-        end(t, phase, filled, out);
-        return Work {
+        },
+        Some(0) => {
+            end(rt, t, phase, filled, out);
+            Work {
+                phase,
+                filled,
+                going: false,
+            }
+        }
+        Some(more) => Work {
             phase,
-            filled,
-            going: false,
-        };
-    }
-    let sum = filled + more;
-    Work {
-        phase,
-        filled: sum,
-        going: true,
+            filled: filled + more,
+            going: true,
+        },
     }
 }
 
 // One turn: the block is taken, and more is read where that is next. The block has room for the longest record.
-fn turn(t: &mut [u32], phase: Phase, block: &mut [u8], filled: usize, out: &mut [u8]) -> Work
+fn turn(
+    rt: &(impl Print + Eprint),
+    input: &mut impl Read,
+    t: &mut [u32],
+    phase: Phase,
+    block: &mut [u8],
+    filled: usize,
+    out: &mut [u8],
+) -> Work
     requires { (259 ≤ length block.old) × Valid t.old }
     ensures { Valid t.new }
 {
@@ -104,7 +122,7 @@ fn turn(t: &mut [u32], phase: Phase, block: &mut [u8], filled: usize, out: &mut 
     let next = taken.next;
     match next {
         Next::Done => {
-            refuse();
+            refuse(rt);
             Work {
                 phase: last,
                 filled: left,
@@ -116,14 +134,15 @@ fn turn(t: &mut [u32], phase: Phase, block: &mut [u8], filled: usize, out: &mut 
             filled: left,
             going: true,
         },
-        Next::Read => read_more(t, last, block, left, out),
+        Next::Read => read_more(rt, input, t, last, block, left, out),
     }
 }
 
-// A proved loop has to end, and nothing says that the log does: the turns are counted down from a number that no run uses up.
-fn run(block: &mut [u8], out: &mut [u8])
+// A proved loop has to end, and nothing says that the log does: the turns are counted up to a number that no run reaches.
+fn run(rt: &(impl Input + Print + Eprint), block: &mut [u8], out: &mut [u8])
     requires { 259 ≤ length block.old }
 {
+    let mut input = rt.reader();
     let begun = run_ends::start();
     let first = begun.phase;
     let mut t = begun.table;
@@ -132,17 +151,18 @@ fn run(block: &mut [u8], out: &mut [u8])
         filled: 0,
         going: true,
     };
-    let mut turns = u64::MAX;
-    while turns > 0 && work.going {
+    for _ in 0..u64::MAX {
+        if !work.going {
+            return;
+        }
         let phase = work.phase;
         let filled = work.filled;
-        work = turn(&mut t, phase, block, filled, out);
-        turns -= 1;
+        work = turn(rt, &mut input, &mut t, phase, block, filled, out);
     }
 }
 
-fn main() {
-    let mut block = io::large_buffer();
-    let mut out = io::large_buffer();
-    run(&mut block, &mut out);
+fn main(rt: HostRuntime) {
+    let mut block = [0u8; 65536];
+    let mut out = [0u8; 65536];
+    run(&rt, &mut block, &mut out);
 }

@@ -5,6 +5,7 @@
 ghost use Rattle.std.specs.Prelude.{◌<◌};
 
 use address::{Address, Family};
+use std::io;
 use vector_lines::show_number;
 
 // 10.0.0.1
@@ -58,55 +59,62 @@ fn ipv4(word: u32) -> Address {
 
 // Prints the number and the length of the part, beside what they should be.
 fn show<'a>(
+    rt: &impl Print,
     name: &[u8],
     first: &'a [u8],
     second: &'a [u8],
     address: Address,
     wanted: u64,
     length: u64,
-) {
+) -> io::Result<()> {
     let mut number = 0u8;
     let part = dumps::last_announcement(first, second, address, &mut number);
     let octets = part.len() as u64;
-    show_number(name, number as u64, wanted);
-    show_number(b"  its octets", octets, length);
+    show_number(rt, name, number as u64, wanted)?;
+    show_number(rt, b"  its octets", octets, length)
 }
 
 // Asks both dumps for the IPv4 address of a word.
-fn ask(name: &[u8], word: u32, wanted: u64, length: u64) {
+fn ask(rt: &impl Print, name: &[u8], word: u32, wanted: u64, length: u64) -> io::Result<()> {
     let first = first_dump();
     let second = second_dump();
-    show(name, &first, &second, ipv4(word), wanted, length);
+    show(rt, name, &first, &second, ipv4(word), wanted, length)
 }
 
 // The dumps the other way round.
-fn ask_second_first(name: &[u8], word: u32, wanted: u64, length: u64) {
+fn ask_second_first(
+    rt: &impl Print,
+    name: &[u8],
+    word: u32,
+    wanted: u64,
+    length: u64,
+) -> io::Result<()> {
     let first = first_dump();
     let second = second_dump();
-    show(name, &second, &first, ipv4(word), wanted, length);
+    show(rt, name, &second, &first, ipv4(word), wanted, length)
 }
 
 // The second dump with an octet missing at its end: the length octet of its last record says one more.
-fn ask_cut(name: &[u8], word: u32, wanted: u64, length: u64) {
+fn ask_cut(rt: &impl Print, name: &[u8], word: u32, wanted: u64, length: u64) -> io::Result<()> {
     let first = first_dump();
     let mut second = second_dump();
     second[44] = 34;
-    show(name, &first, &second, ipv4(word), wanted, length);
+    show(rt, name, &first, &second, ipv4(word), wanted, length)
 }
 
 // An empty dump beside the second.
-fn ask_empty(name: &[u8], word: u32, wanted: u64, length: u64) {
+fn ask_empty(rt: &impl Print, name: &[u8], word: u32, wanted: u64, length: u64) -> io::Result<()> {
     let empty: [u8; 0] = [0; 0];
     let second = second_dump();
-    show(name, &empty, &second, ipv4(word), wanted, length);
+    show(rt, name, &empty, &second, ipv4(word), wanted, length)
 }
 
-fn main() {
-    ask(b"the last, though withdrawn", ONE, 0, 29);
-    ask_second_first(b"the other dump first", ONE, 0, 37);
-    ask(b"only in the second", TWO, 0, 37);
-    ask(b"in neither", 0x0A000003, 9, 0);
-    ask(b"address zero", 0, 6, 0);
-    ask_cut(b"the second is cut", ONE, 16, 0);
-    ask_empty(b"an empty dump", TWO, 0, 37);
+fn main(rt: HostRuntime) -> io::Result<()> {
+    ask(&rt, b"the last, though withdrawn", ONE, 0, 29)?;
+    ask_second_first(&rt, b"the other dump first", ONE, 0, 37)?;
+    ask(&rt, b"only in the second", TWO, 0, 37)?;
+    ask(&rt, b"in neither", 0x0A000003, 9, 0)?;
+    ask(&rt, b"address zero", 0, 6, 0)?;
+    ask_cut(&rt, b"the second is cut", ONE, 16, 0)?;
+    ask_empty(&rt, b"an empty dump", TWO, 0, 37)
 }

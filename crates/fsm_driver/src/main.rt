@@ -1,22 +1,19 @@
 // Drives machines by items from standard input, six octets each: a kind, an event's number, and four octets of a number, high octet first. Kind 0 hands in
 // the event with the number as its clock reading; kind 1 hands in the clock reading alone; any other kind makes a machine with the number as its wait, and
 // the items that follow are its own. The first machine is the one that a wait of 0 is refused with. After each item ten octets are written: the answer's
-// number, the state's number, the wait and the start, four octets each. The run ends with the input; a cut item is left out.
+// number, the state's number, the wait and the start, four octets each. The run ends with the input; a cut item is left out. A read
+// or a write that fails ends it with its error.
 #![tactic(auto)]
 
 ghost use Rattle.std.specs.Prelude.{◌≡◌};
 ghost use Rattle.fsm_driver.specs.Items.{item_answer, item_octets};
 
 use fsm::{Answer, Machine};
-
-// The machine after an item, and whether another item may follow.
-#[derive(Clone, Copy)]
-struct ItemTaken {
-    machine: Machine,
-    more: bool,
-}
+use std::io;
+use std::io::{ErrorKind, Read};
 
 // The answer to an item.
+#[tactic(auto, unfolding(crate::specs::Items::item_answer))]
 fn item_answer(m: Machine, kind: u8, event: u8, number: u32) -> Answer
     ensures { result ≡ item_answer m kind event number }
 {
@@ -33,6 +30,7 @@ fn item_answer(m: Machine, kind: u8, event: u8, number: u32) -> Answer
 }
 
 // The ten octets that are written for an answer.
+#[tactic(auto, unfolding(octets::specs::Octets::octets_of, crate::specs::Items::item_octets))]
 fn octets_of(a: Answer) -> [u8; 10]
     ensures { result ≡ item_octets a }
 {
@@ -54,38 +52,32 @@ fn octets_of(a: Answer) -> [u8; 10]
     ]
 }
 
-// Reads an item, and writes what becomes of the machine.
-fn take_item(m: Machine) -> ItemTaken {
+// Reads an item, writes what becomes of the machine, and answers it; none where the input ends before the item does.
+fn take_item(rt: &impl Print, input: &mut impl Read, m: Machine) -> io::Result<Option<Machine>> {
     let mut item = [0u8; 6];
-    let n = io::read_full(0, &mut item);
-    if n < 6 {
-        return ItemTaken {
-            machine: m,
-            more: false,
+    if let Err(e) = input.read_exact(&mut item) {
+        return if e.kind() == ErrorKind::UnexpectedEof {
+            Ok(None)
+        } else {
+            Err(e)
         };
     }
     let number = octets::u32_of(item[2], item[3], item[4], item[5]);
     let a = item_answer(m, item[0], item[1], number);
-    let line = octets_of(a);
-    let next = a.machine;
-    ItemTaken {
-        machine: next,
-        more: io::write_all(1, &line),
-    }
+    rt.write_all(&octets_of(a))?;
+    Ok(Some(a.machine))
 }
 
-// A proved loop has to end, and nothing says that the input does: the loop counts its turns down, from a number that no run uses up.
-fn main() {
+// A proved loop has to end, and nothing says that the input does: the loop counts its turns, up to a number that no run reaches.
+fn main(rt: HostRuntime) -> io::Result<()> {
+    let mut input = rt.reader();
     let first = fsm::make(0);
     let mut m = first.machine;
-    let mut turns = u64::MAX;
-    while turns > 0 {
-        let t = take_item(m);
-        if !t.more {
-            return;
+    for _ in 0..u64::MAX {
+        match take_item(&rt, &mut input, m)? {
+            Some(next) => m = next,
+            None => return Ok(()),
         }
-        let next = t.machine;
-        m = next;
-        turns -= 1;
     }
+    Ok(())
 }

@@ -5,16 +5,17 @@
 ghost use Rattle.segment_state.specs.State.{ValidSegment};
 
 use example_tables::{Table, announce, empty_table, refusal, with, without};
+use std::io;
 use vector_lines::show_number;
 
 // Reserved tags.
-fn tags() {
+fn tags(rt: &impl Print) -> io::Result<()> {
     let mut t = with(empty_table(), 1, 0, 0, false);
     t = with(t, 2, 0, 0, false);
     t = with(t, 3, 0, 0, false);
-    show_number(b"tag 0", refusal(t, 0), 10);
-    show_number(b"tag 4294967295", refusal(t, 4294967295), 10);
-    show_number(b"tag 4294967294", refusal(t, 4294967294), 0);
+    show_number(rt, b"tag 0", refusal(t, 0), 10)?;
+    show_number(rt, b"tag 4294967295", refusal(t, 4294967295), 10)?;
+    show_number(rt, b"tag 4294967294", refusal(t, 4294967294), 0)
 }
 
 // A table of the routers 1 to 64.
@@ -22,35 +23,35 @@ fn sixty_four() -> Table
     ensures { ValidSegment result.words }
 {
     let mut t = empty_table();
-    let mut n = 1;
-    while n < 65 {
+    for n in 1..65 {
         t = with(t, n, 0, 0, false);
-        n += 1;
     }
     t
 }
 
 // The 65th address.
-fn full_table() {
+fn full_table(rt: &impl Print) -> io::Result<()> {
     let mut t = sixty_four();
     let refused = announce(t, 65, 0, 0, false);
-    show_number(b"a 65th address", refused.number as u64, 8);
+    show_number(rt, b"a 65th address", refused.number as u64, 8)?;
     let replaced = announce(t, 64, 0, 0, false);
     show_number(
+        rt,
         b"an address that is present, at 64",
         replaced.number as u64,
         0,
-    );
+    )?;
     t = without(t, 7);
     let accepted = announce(t, 65, 0, 0, false);
     show_number(
+        rt,
         b"a 65th address after one withdrawal",
         accepted.number as u64,
         0,
-    );
+    )
 }
 
-fn main() {
-    tags();
-    full_table();
+fn main(rt: HostRuntime) -> io::Result<()> {
+    tags(&rt)?;
+    full_table(&rt)
 }

@@ -3,6 +3,7 @@
 
 ghost use Rattle.segment_state.specs.State.{ValidSegment};
 
+use std::io;
 use vector_lines::show_number;
 
 // What a range names: Highest-Preference or Lowest-Preference.
@@ -11,21 +12,33 @@ pub const UP: u32 = 2;
 pub const DOWN: u32 = 3;
 
 // The operator sets ranges.
-pub fn set(name: &[u8], t: &mut [u32], run: &[u32], wanted: u64)
+pub fn set(rt: &impl Print, name: &[u8], t: &mut [u32], run: &[u32], wanted: u64) -> io::Result<()>
     requires { ValidSegment t.old }
     ensures { ValidSegment t.new }
 {
     let number = segment::set_ranges(t, run);
-    show_number(name, number as u64, wanted);
+    show_number(rt, name, number as u64, wanted)
 }
 
 // Prints the router that is elected for a tag, and the algorithm that the answer tells, beside what they should be.
-pub fn show(name: &[u8], t: &[u32], tag: u32, wanted: u64, wanted_algorithm: u64)
+pub fn show(
+    rt: &impl Print,
+    name: &[u8],
+    t: &[u32],
+    tag: u32,
+    wanted: u64,
+    wanted_algorithm: u64,
+) -> io::Result<()>
     requires { ValidSegment t.now }
 {
     let none: [u32; 0] = [0; 0];
     let answer = segment::elect(t, tag, &none);
     let address = answer.address;
-    show_number(name, (address[0] % 256) as u64, wanted);
-    show_number(b"  algorithm", answer.algorithm as u64, wanted_algorithm);
+    show_number(rt, name, (address[0] % 256) as u64, wanted)?;
+    show_number(
+        rt,
+        b"  algorithm",
+        answer.algorithm as u64,
+        wanted_algorithm,
+    )
 }
