@@ -171,9 +171,8 @@ fn too_long() -> Backup
 
 // Names the backup among a list of candidates, in any order, all of them eligible, under algorithm 2 or 3: 22 for a list over 64, with an address twice, with address zero or with a family that is
 // neither 4 nor 6; then 15 for another algorithm; then 12 for fewer than two records. An address that is named is that of a candidate other than the forwarder, and no other candidate but the
-// forwarder is better. The order of the list does not matter. To C, which sees it as well, the list is a pointer and a count.
-#[unsafe(no_mangle)]
-pub extern "C" fn name_backup_in(list: &[Candidate], algorithm: u8) -> Backup
+// forwarder is better. The order of the list does not matter. `candidate_list_c` exports it.
+pub fn name_backup_in(list: &[Candidate], algorithm: u8) -> Backup
     ensures answer { result ≡ backup_in_list list.now algorithm }
     ensures second { result.number ≡ 0 → SecondInLine (by_algorithm algorithm) (map candidate_entry list.now) 0 result }
     ensures any_order { (other : List Candidate) → Permᴰ other list.now → result ≡ backup_in_list other algorithm }
