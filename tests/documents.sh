@@ -18,7 +18,7 @@ while IFS='|' read -r _ section _ names files _; do
     rows=$((rows + 1))
     mapfile -t paths < <(quoted "$files" | sed 's|^|crates/|')
     for name in $(quoted "$names"); do
-        grep -qsE "pub (data |record )?$name " "${paths[@]}" || fail "RFC$section: $name does not stand in ${paths[*]}"
+        grep -qsE "pub (abbrev |unfoldable |data |record )?$name " "${paths[@]}" || fail "RFC$section: $name does not stand in ${paths[*]}"
     done
 done < <(sed -n '/^| RFC, section/,/^$/p' README.md | sed '1,2d; /^$/d')
 [ "$rows" -gt 0 ] || fail "README.md has no table of RFC sections"
@@ -28,7 +28,7 @@ for folder in crates/*/specs; do
     grep -q "\`$crate\`" README.md || fail "README.md does not name $crate, which has definitions"
 done
 while read -r crate; do
-    grep -B1 "^$crate:" crates.txt | head -n 1 | grep -q '^# ' || fail "crates.txt has no line on $crate"
-done < <(sed -n 's/^\([a-z0-9_]*\):.*/\1/p' crates.txt)
+    grep -EB1 "^$crate( staticlib)?:" crates.txt | head -n 1 | grep -q '^# ' || fail "crates.txt has no line on $crate"
+done < <(sed -En 's/^([a-z0-9_]+)( staticlib)?:.*/\1/p' crates.txt)
 
 [ "$failed" = 0 ] && echo "documents: $rows rows, all right"

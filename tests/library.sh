@@ -1,5 +1,6 @@
 #!/usr/bin/env bash
-# Compares the calls of the library, as the crates of exports and `candidate_list` hand them over, with the reference, call by call: library.sh
+# Compares the calls of the library, as the static libraries of crates.txt hand them over, with the reference, call by call: library.sh [--after-ci]
+# With --after-ci the archives are built over what `rt ci` has just proved here (`archives.sh`).
 # So the calls that no bench record makes are compared too: the returning router, ready lists over 64, with both families, with rows that are no address and
 # words that are no row, routes and lists of any length; the Ethernet A-D routes, with the whole state after each call, and the election over both tables; the
 # elections by multicast flow, with the whole state after each call, and the numbers set for them; the ranges of tags that override Highest or Lowest, with the
@@ -9,9 +10,7 @@
 # The baselines of benchmarks/ are held against the reference in the same way. Elections by flow are also compared with a computation in Python.
 set -euo pipefail
 cd "$(dirname "$0")/.."
-for crate in exports circuit_exports flow_exports any_source_exports backup_exports candidate_list dump_exports log_exports; do
-    rt staticlib "$crate" > /dev/null
-done
+tests/archives.sh "$@"
 cargo test --offline --quiet --manifest-path benchmarks/Cargo.toml --target-dir benchmarks/target --test oracle
 cargo build --offline --quiet --manifest-path benchmarks/Cargo.toml --target-dir benchmarks/target --bin flow_driver
 for side in proved array list; do

@@ -44,18 +44,18 @@ refused "$top/run" wrong
 grep -q 'line 2' err || fail "a wrong line is not named"
 
 # a copy in which nothing is built
-mkdir -p copy/crates copy/tests/reference/src bin
+mkdir -p copy/crates/bench copy/crates/compact copy/tests/reference/src bin
 cp -r "$top/run" "$top/crates.txt" "$top/examples" copy
 touch copy/tests/reference/Cargo.toml
 release=$top/tests/reference/target/release
-compact=$top/target/bin/compact
+compact=$top/crates/compact/out/compact
 [ -x "$compact" ] || compact=$release/compact_reference
 cat > bin/rt <<EOF
 #!/bin/sh
-mkdir -p target/bin
-case "\$*" in
-    "check bench") cp "$top/target/bin/bench" target/bin ;;
-    "check compact") cp "$compact" target/bin/compact ;;
+mkdir -p out
+case "\${PWD##*/} \$*" in
+    "bench run") cp "$top/crates/bench/out/bench" out && out/bench ;;
+    "compact run") cp "$compact" out/compact && out/compact ;;
     *) exit 1 ;;
 esac
 EOF

@@ -1,4 +1,4 @@
-//! The proved calls, as the crates `exports`, `circuit_exports`, `flow_exports`, `any_source_exports`, `backup_exports`, `candidate_list`, `dump_exports` and
+//! The proved calls, as the crates `exports`, `circuit_exports`, `flow_exports`, `any_source_exports`, `backup_exports`, `candidate_list_c`, `dump_exports` and
 //! `log_exports` hand them to C: a slice goes over as its start and its length.
 
 use crate::answer::{

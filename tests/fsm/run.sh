@@ -1,13 +1,13 @@
 #!/bin/bash
 # Compares the proved state machine with the second one: run.sh [DRIVER]
-# DRIVER is the proved driver, by default the one that `rt check` links. The status is not zero on a difference.
+# DRIVER is the proved driver, by default the one that `rt run` or `rt ci` built. The status is not zero on a difference.
 
 set -euo pipefail
 
 here=$(cd "$(dirname "$0")" && pwd)
-driver=${1:-$here/../../target/bin/fsm_driver}
+driver=${1:-$here/../../crates/fsm_driver/out/fsm_driver}
 if [ ! -f "$driver" ] || [ ! -x "$driver" ]; then
-    echo "run.sh: $driver is no program: run 'rt check fsm_driver' first" >&2
+    echo "run.sh: $driver is no program: run 'rt run' in crates/fsm_driver first" >&2
     exit 1
 fi
 
