@@ -26,7 +26,7 @@ pub fn router(n: u8) -> Address {
 }
 
 // A table of one segment.
-#[derive(Drop)]
+#[derive(Clone, Copy)]
 pub struct Table {
     pub words: [u32; WORDS],
 }

@@ -1,11 +1,11 @@
 -- Laws of what a run of records prints and leaves: it prints what the run prints; a record at the front goes first; and what follows a log that has not ended goes on from its state. Assumes nothing.
-use Prim.Native.Nat.{ℕ, zero, suc, ◌+◌, ◌≤◌}
+use Prim.Native.Nat.{ℕ, zero, suc, ◌≤◌}
 use native.Mathlib.Nat.{le_refl}
 use native.Mathlib.Omega.{arith}
 use mathlib.Core.Path.{◌≡◌, refl, ap, ◌∙◌, sym}
 use mathlib.Core.Bool.{Bool, true, false, cond}
 use mathlib.Core.List.{List, [], ◌∷◌, ◌++◌, append_assoc}
-use lib.ListN.{length, length-append}
+use lib.ListN.{length}
 use Rattle.lists.proofs.Bools.{true-false}
 use Rattle.layout.specs.Table.{Table}
 use Rattle.frames.specs.Frames.{Front, nothing, bad, cut, whole, front, record_of}

@@ -1,6 +1,6 @@
 -- A fresh segment: the words of an empty table that was given to an identifier, and settings with none set. Assumes nothing.
 use Prim.Native.Nat.{ℕ}
-use mathlib.Core.Path.{◌≡◌, ap, ap₂, ◌∙◌}
+use mathlib.Core.Path.{◌≡◌, ap₂, ◌∙◌}
 use mathlib.Core.List.{List, ◌++◌}
 use lib.ListN.{replicate}
 use Rattle.layout.specs.Table.{Table}
@@ -9,7 +9,7 @@ use Rattle.table.proofs.Told.{fresh-told as table-told}
 use Rattle.owner.specs.Given.{Given}
 use Rattle.settings.specs.Settings.{Settings}
 use Rattle.settings.proofs.Laws.{zeros-none}
-use Rattle.segment_state.specs.State.{Segment, fresh_segment, segment_in, ValidSegment}
+use Rattle.segment_state.specs.State.{fresh_segment, segment_in, ValidSegment}
 use Rattle.segment_state.proofs.Laws.{together}
 
 pub fresh-told : (i : List ℕ) (n : ℕ) (b : List ℕ) → Given i n b

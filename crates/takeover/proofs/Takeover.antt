@@ -6,11 +6,11 @@ use mathlib.Core.Bool.{Bool, true, false, cond}
 use mathlib.Core.List.{List, Memᴰ}
 use lib.ListN.{length}
 use lib.Dec.{ltb, eqb}
-use borrow.Author.Tests.{eq-eqb, eqb-false}
+use borrow.Author.Tests.{eq-eqb}
 use Rattle.lists.specs.Checks.{first_refusal}
 use Rattle.lists.proofs.Bools.{true-false}
 use Rattle.lists.proofs.Lists.{every-mem}
-use Rattle.address.specs.Address.{address_key, family_of, address_words, is_zero}
+use Rattle.address.specs.Address.{family_of, address_words}
 use Rattle.keyed.specs.Keyed.{has, remove}
 use Rattle.keyed.proofs.Order.{has-mem, rising-distinct}
 use Rattle.keyed.proofs.Journal.{has-removed}
@@ -33,7 +33,7 @@ use Rattle.tags.specs.Tags.{reserved_tag}
 use Rattle.election.specs.Queries.{plain, method_for, method_of, candidates_of}
 use Rattle.election.proofs.Laws.{passes}
 use Rattle.backup.specs.declared.Backup.{Backup}
-use Rattle.backup.specs.Backup.{refused_backup, backup_by, backup_with, SecondInLine}
+use Rattle.backup.specs.Backup.{refused_backup, backup_with, SecondInLine}
 use Rattle.circuit_election.specs.Over.{elect_over}
 use Rattle.forwarders.specs.Forwarders.{elect_in, Names}
 use Rattle.bystander.proofs.Members.{candidate-of, candidate-in, eligible-alike, on-routers}

@@ -5,14 +5,10 @@ use Rattle.candidate_list.proofs.push.Statement.{statement}
 use Rattle.candidate_list.proofs.push.Tie as tie
 
 returns : tie.Need-returns-then-t
-returns c = let start = c.before in pushed-wrong start.args.t start.requires.0 start.args.c c.if-t.true
+returns c = pushed-wrong c.args.t c.requires.0 c.args.c c.if-t.true
 
 returns-2 : tie.Need-returns
-returns-2 c =
-    let taken = c.before in
-    let first = taken.before.before.before in
-    let start = first.before in
-    pushed-taken start.args.t start.requires.0 start.args.c _ _ first.if-t.false taken.take_in-wrong.ensures
+returns-2 c = pushed-taken c.args.t c.requires.0 c.args.c _ _ c.if-t.false c.take_in-wrong.ensures
 
 pub push_spec : {M : Type 1} → statement M
 push_spec =

@@ -7,23 +7,23 @@ use borrow.Author.Rules.{rules}
 use Rattle.opening.proofs.begin.Statement.{statement}
 use Rattle.opening.proofs.begin.Tie as tie
 
-returns : tie.Need-returns
+returns : tie.Need-returns-then-number-ne0
 returns c =
     let s = c.before.before.before.before.before.before.before.before.before in
-    stepped-end s.args.text.now _ c.before.before.before.before.before.read-text.ensures.0 c.before.before.before.put-read.ensures s.args.t.now s.requires.1 c.if1.true
+    stepped-end s.args.text.now _ c.read_text-read.ensures.0 c.put_read-end.ensures s.args.t.now s.requires.1 c.if-number-ne0.true
 
-copy-words-requires : tie.Need-copy-words-requires
-copy-words-requires c κs = length-valid _ c.before.before.before.before.before.before.before.before.before.before.before.before.before.before.before.requires.1 ∙ sym (length-valid _ c.before.before.before.fresh.ensures.1)
+copy-words-requires : tie.Need-copy_words-requires
+copy-words-requires c κs = length-valid _ c.requires.1 ∙ sym (length-valid _ c.fresh-made.ensures.1)
 
-returns-2 : tie.Need-returns-2
+returns-2 : tie.Need-returns
 returns-2 c =
     let s = c.before.before.before.before.before.before.before.before.before.before.before.before.before.before.before.before.before.before in
-    let made = c.before.before.before.before.before.before.fresh.ensures in
-    stepped-begin s.args.text.now _ c.before.before.before.before.before.before.before.before.before.before.before.before.before.before.read-text.ensures.0 c.before.before.before.before.before.before.before.before.before.before.before.before.put-read.ensures (table_in s.args.t.now)
-    c.before.before.before.before.before.before.before.before.before.if1.false made.0 made.1 c.before.before.copy-words.ensures
+    let made = c.fresh-made.ensures in
+    stepped-begin s.args.text.now _ c.read_text-read.ensures.0 c.put_read-end.ensures (table_in s.args.t.now)
+    c.if-number-ne0.false made.0 made.1 c.copy_words.ensures
 
-pub begin-spec : {M : Type 1} → statement M
-begin-spec =
+pub begin_spec : {M : Type 1} → statement M
+begin_spec =
     tie.close
     (tie.spec
     (λ c κs. search rules)

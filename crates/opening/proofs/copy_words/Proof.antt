@@ -9,33 +9,33 @@ use Rattle.turns.proofs.Laws.{copied}
 use Rattle.opening.proofs.copy_words.Statement.{statement}
 use Rattle.opening.proofs.copy_words.Tie as tie
 
-abbrev invariant-loop : tie.invariant-loop
+abbrev invariant-loop : tie.invariant-loop-i
 invariant-loop t₀ from i₀ t i = (i ≤ length from) × (length t ≡ length from) × (t ≡ take i from ++ drop i t₀)
 
-abbrev decreases-loop : tie.decreases-loop
+abbrev decreases-loop : tie.decreases-loop-i
 decreases-loop t₀ from i₀ t i = length from - i
 
-loop-holds : tie.Need-loop-init invariant-loop decreases-loop
+loop-holds : tie.Need-loop-i-init invariant-loop decreases-loop
 loop-holds c = (omega arith, c.requires, refl)
 
-loop-again : tie.Need-loop-preserved invariant-loop decreases-loop
+loop-again : tie.Need-loop-i-preserved invariant-loop decreases-loop
 loop-again c =
     let turn = c.before.before in
-    let a = turn.before.args in
-    let v = turn.loop.invariant in
-    (omega arith, length-set turn.loop.t _ _ ∙ v.1, rw v.2 (front-next a.t.now a.from.now turn.loop.i (omega (arith, v.1, turn.before.requires)) (omega (arith, v.1))))
+    let a = turn.args in
+    let v = turn.loop-i.invariant in
+    (omega arith, length-set turn.loop-i.t _ _ ∙ v.1, rw v.2 (front-next a.t.now a.from.now turn.loop-i.i (omega (arith, v.1, turn.requires)) (omega (arith, v.1))))
 
-same_length : tie.Need-same-length invariant-loop decreases-loop
-same_length c = c.before.loop.invariant.1 ∙ sym c.before.before.requires
+same_length : tie.Need-shape_of-t invariant-loop decreases-loop
+same_length c = c.loop-i.invariant.1 ∙ sym c.requires
 
 returns : tie.Need-returns invariant-loop decreases-loop
 returns c =
     let turn = c.before in
-    let v = turn.loop.invariant in
-    v.2 ∙ copied _ _ turn.loop.i (omega (arith, v.1)) (omega (arith, v.1, turn.before.requires))
+    let v = turn.loop-i.invariant in
+    v.2 ∙ copied _ _ turn.loop-i.i (omega (arith, v.1)) (omega (arith, v.1, turn.requires))
 
-pub copy-words-spec : {M : Type 1} → statement M
-copy-words-spec =
+pub copy_words_spec : {M : Type 1} → statement M
+copy_words_spec =
     tie.close
     (tie.spec
     invariant-loop

@@ -34,7 +34,7 @@ module _ (z : tie.After-size) where
   n = length rest / z.size.result
 
   abbrev words : List ℕ
-  words = z.before.before.put-rows.last.0
+  words = z.put_rows.new.ready
 
   rest-is : rest ≡ drop 4 p
   rest-is = take-of-all (length p - 4) (drop 4 p) (length-drop 4 p)
@@ -42,27 +42,27 @@ module _ (z : tie.After-size) where
   few : n ≤ 63
   few =
       let e : n ≡ length rest / size_of v = ap (λ (x : ℕ). length rest / x) z.size.ensures in
-      omega (arith, e, addresses-few v rest (omega (arith, ap length rest-is, length-drop 4 p, start.pre.2)))
+      omega (arith, e, addresses-few v rest (omega (arith, ap length rest-is, length-drop 4 p, start.requires.2)))
 
   room : length words ≡ 320
-  room = z.before.before.put-rows.kept.0
+  room = z.put_rows.auto.ready
 
   ready-is : ready_in (take (n * 5) words) ≡ addresses_in v (drop 4 p)
   ready-is =
-      ap ready_in (ap (λ (x : ℕ). take (length rest / x * 5) words) z.size.ensures ∙ z.before.before.put-rows.ensures)
+      ap ready_in (ap (λ (x : ℕ). take (length rest / x * 5) words) z.size.ensures ∙ z.put_rows.ensures)
       ∙ ready-flat v rest
       ∙ ap (addresses_in v) rest-is
 
-div-n : tie.Need-nonzero-div-n
+div-n : tie.Need-nonzero_div-n
 div-n c = omega (arith, (size-pos (v c)).0, c.size.ensures)
 
-mul-n : tie.Need-overflow-mul-n
+mul-n : tie.Need-overflow_mul-n
 mul-n c = record { fits = omega (arith, few c) }
 
-array-share-prefix-ready : tie.Need-array-share-prefix-ready
+array-share-prefix-ready : tie.Need-slice_bounds-ready-end
 array-share-prefix-ready c = let z = c.before.before in omega (arith, few z, room z)
 
-slice-aggregate-elect-2 : tie.Need-slice-aggregate-elect-2
+slice-aggregate-elect-2 : tie.Need-slice_bounds-elect-end-2
 slice-aggregate-elect-2 c = let z = c.before.before.before in sym (length-take-le (n z * 5) (words z) (omega (arith, few z, room z)))
 
 returns : tie.Need-returns
@@ -72,16 +72,16 @@ returns c =
     let none = el.before.before.before in
     let z = none.before in
     let u = z.before.before.before.before.before in
-    stepped-query (start z).args.t.now (v z) (p z) el.elect.result u.u32-of.result _
-    (u.u32-of.ensures ∙ ap number_of (four-front (p z) (start z).requires.1))
+    stepped-query (start z).args.t.now (v z) (p z) el.elect-answer.result u.u32_of-tag.result _
+    (u.u32_of-tag.ensures ∙ ap number_of (four-front (p z) (start z).requires.1))
     (ready-is z)
-    none.fresh.ensures.0
-    el.elect.ensures.0
+    none.fresh-none.ensures.0
+    el.elect-answer.ensures.0
     (start z).requires.3
-    told.put-answer.ensures
+    told.put_answer-end.ensures
 
-pub query-spec : {M : Type 1} → statement M
-query-spec =
+pub query_spec : {M : Type 1} → statement M
+query_spec =
     tie.close
     (tie.spec
     (λ c. search rules)

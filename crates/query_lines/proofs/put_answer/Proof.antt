@@ -4,13 +4,19 @@ use borrow.Author.Rules.{rules}
 use Rattle.query_lines.proofs.put_answer.Statement.{statement}
 use Rattle.query_lines.proofs.put_answer.Tie as tie
 
-returns : tie.Need-returns
-returns c = written_as c.before.before.put-line.ensures (query-refused _ c.before.before.before.before.if1.true)
+returns : tie.Need-returns-then-number-ne0
+returns c = written_as c.put_line.ensures (query-refused _ c.if-number-ne0.true)
 
-returns-2 : tie.Need-returns-2
-returns-2 c = written_as c.before.before.put-elected.ensures (query-accepted _ c.before.before.before.before.before.if1.false)
+returns-2 : tie.Need-returns
+returns-2 c = written_as c.put_elected.ensures (query-accepted _ c.if-number-ne0.false)
 
-pub put-answer-spec : {M : Type 1} → statement M
-put-answer-spec =
+pub put_answer_spec : {M : Type 1} → statement M
+put_answer_spec =
     tie.close
-    (tie.spec (λ c κs. search rules) (λ c. search rules) returns (λ c κs. search rules) (λ c. search rules) returns-2)
+    (tie.spec
+    (λ c κs. search rules)
+    (λ c. search rules)
+    returns
+    (λ c κs. search rules)
+    (λ c. search rules)
+    returns-2)

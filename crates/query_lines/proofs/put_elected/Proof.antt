@@ -11,21 +11,14 @@ use Rattle.query_lines.proofs.put_elected.Tie as tie
 returns : tie.Need-returns
 unfolding elected_line
 returns c =
-    let p5 = c.before.before in
-    let p4 = p5.before.before.before.before in
-    let p3 = p4.before.before.before.before in
-    let p2 = p3.before.before.before.before in
-    let p1 = p2.before.before.before.before in
-    let s = p1.before.before.before.before in
-    written_all (put_next p1.put-run.ensures (put_next p2.put-address.ensures (put_next p3.put-octet.ensures (put_next p4.put-decimal.ensures (λ _. p5.put-octet2.ensures)))))
+    written_all (put_next c.put_run-end.ensures (put_next c.put_address-end.ensures (put_next c.put_octet-end.ensures (put_next c.put_decimal-end.ensures (λ _. c.put_octet.ensures)))))
     refl
-    (omega (arith, length-elected s.args.family s.args.address s.args.n (omega (arith, s.well-formed)) (omega arith), s.requires))
+    (omega (arith, length-elected c.args.family c.args.address c.args.n (omega (arith, c.well_formed)) (omega arith), c.requires))
 
-pub put-elected-spec : {M : Type 1} → statement M
-put-elected-spec =
+pub put_elected_spec : {M : Type 1} → statement M
+put_elected_spec =
     tie.close
     (tie.spec
-    (λ c. search rules)
     (λ c κs. search rules)
     (λ c κs. search rules)
     (λ c κs. search rules)

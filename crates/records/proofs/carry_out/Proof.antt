@@ -7,30 +7,30 @@ use borrow.Author.Rules.{rules}
 use Rattle.records.proofs.carry_out.Statement.{statement}
 use Rattle.records.proofs.carry_out.Tie as tie
 
-returns : tie.Need-returns
+returns : tie.Need-returns-then-kind-ne0
 returns c =
-    let s = c.before.before.before.before.before.before.before.before.before.before in
+    let s = c.before.before.before.before.before.before.before.before in
     let a = s.args in
-    stepped-as (c.before.before.refuse.ensures a.t.now s.requires.2) (turn-none a.phase (table_in a.t.now) a.kind a.payload.now c.before.before.before.before.before.enum_told.given.1 c.before.before.before.before.if1.true)
+    stepped-as (c.refuse.ensures a.t.now s.requires.2) (turn-none a.phase (table_in a.t.now) a.kind a.payload.now c.in-Start.is c.if-kind-ne0.true)
 
-returns-2 : tie.Need-returns-2
+returns-2 : tie.Need-returns-else-kind-ne0
 returns-2 c =
-    let a = c.before.before.before.before.before.before.before.before.before.before.before.before.before.args in
-    stepped-as c.before.before.before.before.begin.ensures (turn-begin a.phase (table_in a.t.now) a.kind a.payload.now c.before.before.before.before.before.before.before.before.enum_told.given.1 c.before.before.before.before.before.before.before.if1.false)
+    let a = c.args in
+    stepped-as c.begin.ensures (turn-begin a.phase (table_in a.t.now) a.kind a.payload.now c.in-Start.is c.if-kind-ne0.false)
 
-returns-3 : tie.Need-returns-3
+returns-3 : tie.Need-returns-in-Running
 returns-3 c =
-    let a = c.before.before.before.before.before.before.before.before.before.before.before.before.args in
-    stepped-as c.before.before.before.before.later.ensures (turn-later a.phase (table_in a.t.now) a.kind a.payload.now c.before.before.before.before.before.before.before.enum-told2.given.1)
+    let a = c.args in
+    stepped-as c.later.ensures (turn-later a.phase (table_in a.t.now) a.kind a.payload.now c.in-Running.is)
 
-returns-4 : tie.Need-returns-4
+returns-4 : tie.Need-returns-in-Ended
 returns-4 c =
-    let s = c.before.before.before.before.before in
+    let s = c.before.before.before in
     let a = s.args in
-    stepped-ended a.phase a.t.now a.kind a.payload.now a.out.now a.at c.enum-told3.given.1 (omega arith) s.requires.2
+    stepped-ended a.phase a.t.now a.kind a.payload.now a.out.now a.at c.in-Ended.is (omega arith) s.requires.2
 
-pub carry-out-spec : {M : Type 1} → statement M
-carry-out-spec =
+pub carry_out_spec : {M : Type 1} → statement M
+carry_out_spec =
     tie.close
     (tie.spec
     (λ c. search rules)

@@ -7,28 +7,28 @@ use borrow.Author.Rules.{rules}
 use Rattle.records.proofs.take_turn.Statement.{statement}
 use Rattle.records.proofs.take_turn.Tie as tie
 
-returns : tie.Need-returns
+returns : tie.Need-returns-then-payload-gt-MAX_PAYLOAD
 returns c =
-    let a = c.before.before.before.before.args in
-    (λ h. absurd (false≢true (sym (takes-long a.out.now a.at a.payload.now (omega (arith, c.if1.true))) ∙ h)), λ _. (refl, refl, refl, refl))
+    let a = c.args in
+    (λ h. absurd (false≢true (sym (takes-long a.out.now a.at a.payload.now (omega (arith, c.if-payload-gt-MAX_PAYLOAD.true))) ∙ h)), λ _. (refl, refl, refl, refl))
 
-returns-2 : tie.Need-returns-2
+returns-2 : tie.Need-returns-then-out-at
 returns-2 c =
-    let a = c.before.before.before.before.before.args in
-    (λ h. absurd (false≢true (sym (takes-short a.out.now a.at a.payload.now (omega (arith, c.if2.true))) ∙ h)), λ _. (refl, refl, refl, refl))
+    let a = c.args in
+    (λ h. absurd (false≢true (sym (takes-short a.out.now a.at a.payload.now (omega (arith, c.if-out-at.true))) ∙ h)), λ _. (refl, refl, refl, refl))
 
-returns-3 : tie.Need-returns-3
+returns-3 : tie.Need-returns-then-room-lt-LINE_ROOM
 returns-3 c =
-    let a = c.before.before.before.before.before.before.args in
-    (λ h. absurd (false≢true (sym (takes-short a.out.now a.at a.payload.now (omega (arith, c.if3.true))) ∙ h)), λ _. (refl, refl, refl, refl))
+    let a = c.args in
+    (λ h. absurd (false≢true (sym (takes-short a.out.now a.at a.payload.now (omega (arith, c.if-room-lt-LINE_ROOM.true))) ∙ h)), λ _. (refl, refl, refl, refl))
 
-returns-4 : tie.Need-returns-4
+returns-4 : tie.Need-returns
 returns-4 c =
-    let a = c.before.before.before.before.before.before.before.before.before.before.before.before.before.args in
-    (λ _. c.before.before.before.before.carry-out.ensures, λ h. absurd (false≢true (sym h ∙ takes-room a.out.now a.at a.payload.now (omega arith) (omega arith))))
+    let a = c.args in
+    (λ _. c.carry_out.ensures, λ h. absurd (false≢true (sym h ∙ takes-room a.out.now a.at a.payload.now (omega arith) (omega arith))))
 
-pub take-turn-spec : {M : Type 1} → statement M
-take-turn-spec =
+pub take_turn_spec : {M : Type 1} → statement M
+take_turn_spec =
     tie.close
     (tie.spec
     returns

@@ -6,8 +6,13 @@ use Rattle.run_ends.proofs.start.Tie as tie
 
 returns : tie.Need-returns
 returns c =
-    let e = started _ c.before.fresh.ensures.0 in
-    (e, (run-first e, c.before.fresh.ensures.1))
+    let e = started _ c.fresh-made.ensures.0 in
+    (e, (run-first e, c.fresh-made.ensures.1))
 
 pub start_spec : {M : Type 1} → statement M
-start_spec = tie.close (tie.spec (λ c. search rules) (λ c κs. search rules) returns)
+start_spec =
+    tie.close
+    (tie.spec
+    (λ c. search rules)
+    (λ c κs. search rules)
+    returns)

@@ -19,7 +19,7 @@ use Rattle.segment.proofs.elect.Tie as tie
 returns : tie.Need-returns
 unfolding segment_in
 returns c =
-    let start = c.before.before.before.before.before in
+    let start = c in
     let a = start.args in
     let told = rw (settings-part a.s.now start.requires) at c.elect.ensures in
     let s = segment_in a.s.now in
@@ -27,13 +27,13 @@ returns c =
     let call = elect-replies s plain a.tag ready told.0 in
     (told.0, (told.1.0, (told.1.1.0, (told.1.1.1, (once s start.requires.table.sound plain a.tag ready told.0, ((λ e. told.0 ∙ ap (λ (g : Settings). elect_with g plain s.table.esi s.table.entries a.tag ready) e ∙ elect-none s.table.esi s.table.entries a.tag ready), (call, elect-follows s plain a.tag ready call)))))))
 
-pub elect-spec : {M : Type 1} → statement M
-elect-spec =
+pub elect_spec : {M : Type 1} → statement M
+elect_spec =
     tie.close
     (tie.spec
-    (λ c. let s = c.before.before.before in sym (length-take-le 388 s.args.s.now (omega (arith, length-state s.args.s.now s.requires))))
-    (λ c. let s = c.before.before.before in omega (arith, length-state s.args.s.now s.requires))
-    (λ c. let s = c.before.before.before in omega (arith, length-state s.args.s.now s.requires))
+    (λ c. let s = c in sym (length-take-le 388 s.args.s.now (omega (arith, length-state s.args.s.now s.requires))))
+    (λ c. let s = c in omega (arith, length-state s.args.s.now s.requires))
+    (λ c. let s = c in omega (arith, length-state s.args.s.now s.requires))
     (λ c. search rules)
-    (λ c κs. let s = c.before.before.before.before in (s.requires.table, valid-settings-part s.args.s.now s.requires))
+    (λ c κs. let s = c in (s.requires.table, valid-settings-part s.args.s.now s.requires))
     returns)

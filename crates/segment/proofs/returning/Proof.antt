@@ -1,8 +1,8 @@
 -- `returning` meets its contract: the returning router's own promise upon both parts of the words, that it is the list's reply, and that what is
 -- sent unseats no forwarder whose DP is set. Assumes nothing.
 use native.Mathlib.Omega.{arith}
-use mathlib.Core.Path.{◌≡◌, ap, sym, ◌∙◌}
-use mathlib.Core.Bool.{Bool, true}
+use mathlib.Core.Path.{ap, sym, ◌∙◌}
+use mathlib.Core.Bool.{Bool}
 use lib.ListN.{take}
 use lib.Seq.{length-take-le}
 use borrow.Author.Rules.{rules}
@@ -22,12 +22,12 @@ returns : tie.Need-returns
 unfolding segment_in
 returns c =
     let own = c.before.before.before in
-    let start = own.before.before in
+    let start = own in
     let a = start.args in
-    let told = rw (settings-part a.s.now start.requires, own.read.ensures.0) at c.returning.ensures in
+    let told = rw (settings-part a.s.now start.requires, c.read-own.ensures.0) at c.returning.ensures in
     let s = segment_in a.s.now in
     let call = returning-replies s (address_row a.address) a.algorithm a.preference a.dp told in
-    let w = own.read.ensures.1 in (
+    let w = c.read-own.ensures.1 in (
       told,
       (
         λ n. told ∙ returning-none s.settings s.table.entries (address_row a.address) a.algorithm a.preference a.dp n,
@@ -44,14 +44,14 @@ returns c =
       ),
     )
 
-pub returning-spec : {M : Type 1} → statement M
-returning-spec =
+pub returning_spec : {M : Type 1} → statement M
+returning_spec =
     tie.close
     (tie.spec
     (λ c κs. search rules)
-    (λ c. let s = c.before.before.before in sym (length-take-le 388 s.args.s.now (omega (arith, length-state s.args.s.now s.requires))))
-    (λ c. let s = c.before.before.before in omega (arith, length-state s.args.s.now s.requires))
-    (λ c. let s = c.before.before.before in omega (arith, length-state s.args.s.now s.requires))
+    (λ c. let s = c in sym (length-take-le 388 s.args.s.now (omega (arith, length-state s.args.s.now s.requires))))
+    (λ c. let s = c in omega (arith, length-state s.args.s.now s.requires))
+    (λ c. let s = c in omega (arith, length-state s.args.s.now s.requires))
     (λ c. search rules)
-    (λ c κs. let s = c.before.before.before.before in (s.requires.table, valid-settings-part s.args.s.now s.requires))
+    (λ c κs. let s = c in (s.requires.table, valid-settings-part s.args.s.now s.requires))
     returns)
