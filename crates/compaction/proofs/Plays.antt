@@ -1,13 +1,13 @@
 -- The run of records that a table is written out as, played: the text makes the empty table, each announcement adds the next entry, and at the end the table is whole. Assumes nothing.
-use Prim.Native.Nat.{ℕ, zero, suc, ◌+◌, ◌≤◌, ◌<◌}
+use Prim.Native.Nat.{ℕ, ◌≤◌, ◌<◌}
 use native.Mathlib.Omega.{arith}
-use mathlib.Core.Path.{◌≡◌, refl, ap, ap₂, sym, ◌∙◌, subst}
-use mathlib.Core.Bool.{Bool, true, false, cond, not, ◌||◌, or-true}
+use mathlib.Core.Path.{◌≡◌, refl, ap, ap₂, sym, ◌∙◌}
+use mathlib.Core.Bool.{true, false, not, ◌||◌, or-true}
 use mathlib.Core.List.{List, [], ◌∷◌, ◌++◌, append_assoc, append-nil}
 use lib.ListN.{length, get_or, take, drop, replicate, length-append, get_or-append}
 use lib.Seq.{take_at, drop_at}
-use lib.Dec.{ltb, leb, eqb}
-use borrow.Author.Tests.{eq-eqb, ne_eqb, lt-ltb, le-leb}
+use lib.Dec.{ltb}
+use borrow.Author.Tests.{lt-ltb, le-leb}
 use Rattle.lists.specs.Lists.{Every}
 use Rattle.lists.proofs.Bools.{eq-not}
 use Rattle.lists.proofs.Checks.{refused_none, passed}
@@ -17,26 +17,24 @@ use Rattle.keyed.specs.Keyed.{Rising, has, insert}
 use Rattle.keyed.proofs.Order.{insert-behind}
 use Rattle.address.specs.Address.{address_key}
 use Rattle.esi.specs.Reserved.{reserved}
-use Rattle.esi.specs.Text.{read_text, text_of, accepted}
-use Rattle.esi.specs.declared.TextRead.{TextRead}
+use Rattle.esi.specs.Text.{text_of}
 use Rattle.esi.proofs.Laws.{length-not-reserved, read-of-text}
-use Rattle.route.specs.Route.{total_of, route_address, route_number, route_esi, route_offset}
+use Rattle.route.specs.Route.{total_of, route_address, route_number}
 use Rattle.route.proofs.Laws.{total-least, offset-accepted}
 use Rattle.route_fields.specs.Fields.{bits_of, route_octets}
 use Rattle.route_fields.proofs.Laws.{length-octets-route, esi-of, bits-of, address-of, number_of}
 use Rattle.community.specs.declared.Election.{Election}
-use Rattle.community.specs.Community.{election_under, community_octets, election_in, list_fits}
+use Rattle.community.specs.Community.{community_octets, election_in, list_fits}
 use Rattle.community.proofs.Laws.{length-community, says-again}
 use Rattle.layout.specs.Table.{Entry, entry_key, entry_of, EntryRight, AddressRight, Table, table_of, WellFormed, owner_of}
 use Rattle.layout.proofs.Words.{Narrow}
-use Rattle.table.specs.Table.{Change, announce_number, changed, announced, fresh_table}
-use Rattle.frames.specs.Frames.{record_of}
+use Rattle.table.specs.Table.{announce_number, announced, fresh_table}
 use Rattle.answer_lines.specs.AnswerLines.{line, read_line, has_offset}
 use Rattle.judgement.specs.Judgement.{judged_of, first_of, later_of, announcement_of}
-use Rattle.turns.specs.Turns.{Bench, Turn, running, text_turn, announce_turn}
-use Rattle.records.specs.Records.{turn, turn_in, turn_of, is_end, first, run_of}
-use Rattle.replays.specs.Played.{Played, played_from, played, Leaves, AnswersAlike}
-use Rattle.replays.proofs.Played.{printed, from_nothing, from-record, lines-run, answers-alike}
+use Rattle.turns.specs.Turns.{Turn, running, text_turn, announce_turn}
+use Rattle.records.specs.Records.{turn, turn_in, turn_of, is_end, first}
+use Rattle.replays.specs.Played.{Played, played_from, played}
+use Rattle.replays.proofs.Played.{printed, from_nothing, from-record, lines-run}
 use Rattle.log_payloads.specs.Payload.{election_of, payload_of}
 use Rattle.log_payloads.proofs.Laws.{length-payload}
 use Rattle.log_octets.specs.Log.{entry_records, log_of, log_number, log_length, log_written}

@@ -12,35 +12,35 @@ use borrow.Author.Rules.{rules}
 use Rattle.blocks.proofs.process.Statement.{statement}
 use Rattle.blocks.proofs.process.Tie as tie
 
-abbrev invariant-loop : tie.invariant-loop
+abbrev invariant-loop : tie.invariant-loop-next
 invariant-loop t₀ input out₀ p₀ t out p = (length t ≡ length t₀) × (length out ≡ length out₀) × Ran (state_in p₀.phase t₀) input out₀ p (state_in p.phase t) out × Valid t
 
-abbrev decreases-loop : tie.decreases-loop
+abbrev decreases-loop : tie.decreases-loop-next
 decreases-loop t₀ input out₀ p₀ t out p = length input - p.used
 
-loop-holds : tie.Need-loop-init invariant-loop decreases-loop
-loop-holds c = (refl, refl, ran-none _ _ _ _, c.before.before.before.requires)
+loop-holds : tie.Need-loop-next-init invariant-loop decreases-loop
+loop-holds c = (refl, refl, ran-none _ _ _ _, c.requires)
 
-advance-requires : tie.Need-advance-requires invariant-loop decreases-loop
-advance-requires c κs = let i = c.before.before.loop.invariant in (i.2.used, omega (arith, i.1, i.2.wrote), i.3)
+advance-requires : tie.Need-advance-next-requires invariant-loop decreases-loop
+advance-requires c κs = let i = c.loop-next.invariant in (i.2.used, omega (arith, i.1, i.2.wrote), i.3)
 
-returns : tie.Need-returns invariant-loop decreases-loop
+returns : tie.Need-returns-then-next-used invariant-loop decreases-loop
 returns c =
-    let a = c.before.before.before.before.before.before.advance.ensures in
-    let i = c.before.before.before.before.before.before.before.before.before.loop.invariant in
-    (ran-next i.1 i.2 a.0, (ran-stopped c.before.before.before.before.before.before.before.before.before.before.before.before.before.args.out.now i.1 a.0 c.if1.true, a.1))
+    let a = c.advance-next.ensures in
+    let i = c.loop-next.invariant in
+    (ran-next i.1 i.2 a.0, (ran-stopped c.args.out.now i.1 a.0 c.if-next-used.true, a.1))
 
-loop-less : tie.Need-loop-smaller invariant-loop decreases-loop
-loop-less c = let a = c.before.before.before.before.before.before.advance.ensures.0 in omega (arith, a.used, a.forward, c.if1.false)
+loop-less : tie.Need-loop-next-smaller invariant-loop decreases-loop
+loop-less c = let a = c.advance-next.ensures.0 in omega (arith, a.used, a.forward, c.if-next-used.false)
 
-loop-again : tie.Need-loop-preserved invariant-loop decreases-loop
+loop-again : tie.Need-loop-next-preserved invariant-loop decreases-loop
 loop-again c =
-    let a = c.before.before.before.before.before.before.advance.ensures in
-    let i = c.before.before.before.before.before.before.before.before.before.loop.invariant in
+    let a = c.advance-next.ensures in
+    let i = c.loop-next.invariant in
     (length-valid _ a.1 ∙ sym (length-valid _ i.3) ∙ i.0, written-length a.0.put ∙ i.1, ran-next i.1 i.2 a.0, a.1)
 
-pub process-spec : {M : Type 1} → statement M
-process-spec =
+pub process_spec : {M : Type 1} → statement M
+process_spec =
     tie.close
     (tie.spec
     invariant-loop

@@ -7,21 +7,21 @@ use borrow.Author.Rules.{rules}
 use Rattle.blocks.proofs.take_block.Statement.{statement}
 use Rattle.blocks.proofs.take_block.Tie as tie
 
-slice-aggregate-process : tie.Need-slice-aggregate-process
-slice-aggregate-process c = sym (length-take-le _ _ (omega (arith, c.before.before.least.ensures)))
+slice-aggregate-process : tie.Need-slice_bounds-process-end-2
+slice-aggregate-process c = sym (length-take-le _ _ (omega (arith, c.least-n.ensures)))
 
 returns : tie.Need-returns
 returns c =
     let k = c.before.before.before in
     let p = k.before.before.before.before.before.before in
     let l = p.before.before.before.before in
-    let a = l.before.before.before.before.args in
-    let known = l.before.before.slice-known2.given in
-    let ran = p.process.ensures in
-    (block-taken a.filled l.least.result (λ i. omega (arith, known i)) l.least.ensures ran.0 ran.1.0 k.keep.ensures.0 k.keep.ensures.1 c.next-in.ensures, ran.1.1)
+    let a = l.args in
+    let known = l.slice_known-2-1.given in
+    let ran = p.process-p.ensures in
+    (block-taken a.filled c.least-n.result (λ i. omega (arith, known i)) c.least-n.ensures ran.0 ran.1.0 k.keep-left.ensures.0 k.keep-left.ensures.1 c.next_in-next.ensures, ran.1.1)
 
-pub take-block-spec : {M : Type 1} → statement M
-take-block-spec =
+pub take_block_spec : {M : Type 1} → statement M
+take_block_spec =
     tie.close
     (tie.spec
     (λ c κs. search rules)

@@ -11,57 +11,57 @@ use borrow.Author.Rules.{rules}
 use Rattle.blocks.proofs.take_record.Statement.{statement}
 use Rattle.blocks.proofs.take_record.Tie as tie
 
-add-after : tie.Need-overflow-add-after
+add-after : tie.Need-overflow_add-after
 add-after c =
-    let a = c.before.before.before.before.before.before.before.args in
-    let w = frame-told a.input.now a.used (sym c.before.before.before.frame_at.ensures ∙ c.before.frame.given.1) in
+    let a = c.args in
+    let w = frame-told a.input.now a.used (sym c.frame_at-frame.ensures ∙ c.in-Whole.is) in
     omega (arith, w.fits)
 
-part-take-turn-end : tie.Need-slice-bounds-take-turn-end
+part-take-turn-end : tie.Need-slice_bounds-take_turn-end
 part-take-turn-end c =
-    let a = c.before.before.before.before.before.before.before.before.args in
-    let w = frame-told a.input.now a.used (sym c.before.before.before.before.frame_at.ensures ∙ c.before.before.frame.given.1) in
+    let a = c.args in
+    let w = frame-told a.input.now a.used (sym c.frame_at-frame.ensures ∙ c.in-Whole.is) in
     omega (arith, w.fits)
 
-returns : tie.Need-returns
+returns : tie.Need-returns-in-Nothing
 returns c =
-    let s = c.before.before.before.before.before.before in
+    let s = c.before.before.before.before.before in
     let a = s.args in (
       advanced-none (state_in a.phase a.t.now) a.input.now a.used a.out.now a.wrote s.requires.0 a.phase (omega arith)
-          (stopped-nothing _ _ _ (frame-told a.input.now a.used (sym c.before.before.frame_at.ensures ∙ c.enum_told.given.1))),
+          (stopped-nothing _ _ _ (frame-told a.input.now a.used (sym c.frame_at-frame.ensures ∙ c.in-Nothing.is))),
       s.requires.3,
     )
 
-returns-2 : tie.Need-returns-2
+returns-2 : tie.Need-returns-in-Cut
 returns-2 c =
-    let s = c.before.before.before.before.before.before in
+    let s = c.before.before.before.before.before in
     let a = s.args in (
       advanced-none (state_in a.phase a.t.now) a.input.now a.used a.out.now a.wrote s.requires.0 a.phase (omega arith)
-          (stopped-cut _ _ _ (frame-told a.input.now a.used (sym c.before.before.frame_at.ensures ∙ c.enum-told2.given.1))),
+          (stopped-cut _ _ _ (frame-told a.input.now a.used (sym c.frame_at-frame.ensures ∙ c.in-Cut.is))),
       s.requires.3,
     )
 
-returns-3 : tie.Need-returns-3
+returns-3 : tie.Need-returns-in-Bad
 returns-3 c =
-    let s = c.before.before.before.before.before.before.before.before.before.before in
+    let s = c.before.before.before.before.before.before.before.before.before in
     let a = s.args in (
       advanced-bad (state_in a.phase a.t.now) a.input.now a.used a.out.now a.wrote s.requires.0 a.t.now s.requires.2
-          (frame-told a.input.now a.used (sym c.before.before.before.before.before.before.frame_at.ensures ∙ c.before.before.before.before.enum-told3.given.1))
-          (written c.before.before.put-bad.ensures (omega arith)),
+          (frame-told a.input.now a.used (sym c.frame_at-frame.ensures ∙ c.in-Bad.is))
+          (written c.put_bad-end.ensures (omega arith)),
       s.requires.3,
     )
 
-returns-4 : tie.Need-returns-4
+returns-4 : tie.Need-returns-in-Whole
 returns-4 c =
-    let s = c.before.before.before.before.before.before.before.before.before.before.before.before.before.before.before in
+    let s = c.before.before.before.before.before.before.before.before.before.before.before.before.before in
     let a = s.args in
-    let w = frame-told a.input.now a.used (sym c.before.before.before.before.before.before.before.before.before.before.before.frame_at.ensures ∙ c.before.before.before.before.before.before.before.before.before.frame.given.1) in
-    let o = c.before.before.before.before.before.before.before.before.before.before.before.before.before.shared-slice-known.given (a.used + 3) in
-    let t = c.before.before.before.before.take-turn.ensures.0 (takes-room a.out.now a.wrote _ (omega arith) (part_length _ _ _ w.fits (whole-at-length a.input.now o.fits w))) in
+    let w = frame-told a.input.now a.used (sym c.frame_at-frame.ensures ∙ c.in-Whole.is) in
+    let o = c.shared_slice_known-1.given (a.used + 3) in
+    let t = c.take_turn-step.ensures.0 (takes-room a.out.now a.wrote _ (omega arith) (part_length _ _ _ w.fits (whole-at-length a.input.now o.fits w))) in
     (advanced-whole (state_in a.phase a.t.now) a.input.now a.used a.out.now a.wrote s.requires.0 _ _ _ _ _ _ s.requires.2 w t, t.kept)
 
-pub take-record-spec : {M : Type 1} → statement M
-take-record-spec =
+pub take_record_spec : {M : Type 1} → statement M
+take_record_spec =
     tie.close
     (tie.spec
     (λ c κs. search rules)

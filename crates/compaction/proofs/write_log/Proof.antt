@@ -20,8 +20,8 @@ use Rattle.compaction.proofs.write_log.Statement.{statement}
 use Rattle.compaction.proofs.write_log.Tie as tie
 
 -- what is known of the words and of the writer's answer
-module _ (told : tie.After-write-log) where
-  abbrev known : tie.After-shared-slice-known
+module _ (told : tie.After-write_log) where
+  abbrev known : tie.After-shared_slice_known-1
   known = told.before.before.before
 
   abbrev start : tie.Start
@@ -34,29 +34,29 @@ module _ (told : tie.After-write-log) where
   t = table_in b
 
   abbrev n : ℕ
-  n = told.write-log.result.number
+  n = told.write_log.result.number
 
   abbrev x : List ℕ
-  x = take told.write-log.result.length told.write-log.last.1.0
+  x = take told.write_log.result.length told.write_log.new.out
 
   wide : Words b
-  wide j = (known.shared-slice-known.given j).fits
+  wide j = (known.shared_slice_known-1.given j).fits
 
   run_is : n ≡ 0 → x ≡ log_of t
-  run_is z = run-written t start.args.out.now n told.write-log.result.length told.write-log.last.1.0 told.write-log.ensures.0.0 told.write-log.ensures.0.1 told.write-log.ensures.1 z
+  run_is z = run-written t start.args.out.now n told.write_log.result.length told.write_log.new.out told.write_log.ensures.0.0 told.write_log.ensures.0.1 told.write_log.ensures.1 z
 
   back : n ≡ 0 → PlaysBack (log_of t) t
   back z =
-      plays-back t start.pre.sound
-      (not-reserved t start.args.out.now n told.write-log.result.length told.write-log.last.1.0 told.write-log.ensures.0.0 told.write-log.ensures.0.1 told.write-log.ensures.1 z)
-      (λ k. every-at (λ (o : ℕ). o < 256) t.esi k 0 (omega arith) start.pre.octets)
-      (every-place (λ (e : Entry). Words e.address) t.entries no_entry (λ k h. words-in b start.pre k h wide))
-      (narrow-entries b start.pre)
+      plays-back t start.requires.sound
+      (not-reserved t start.args.out.now n told.write_log.result.length told.write_log.new.out told.write_log.ensures.0.0 told.write_log.ensures.0.1 told.write_log.ensures.1 z)
+      (λ k. every-at (λ (o : ℕ). o < 256) t.esi k 0 (omega arith) start.requires.octets)
+      (every-place (λ (e : Entry). Words e.address) t.entries no_entry (λ k h. words-in b start.requires k h wide))
+      (narrow-entries b start.requires)
 
 returns : tie.Need-returns
 returns c =
     let told = c.before.before in
-    let e = told.write-log.ensures in (
+    let e = told.write_log.ensures in (
       e.0,
       (
         e.1,
@@ -67,5 +67,10 @@ returns c =
       ),
     )
 
-pub write-log-spec : {M : Type 1} → statement M
-write-log-spec = tie.close (tie.spec (λ c κs. search rules) (λ c. search rules) returns)
+pub write_log_spec : {M : Type 1} → statement M
+write_log_spec =
+    tie.close
+    (tie.spec
+    (λ c κs. search rules)
+    (λ c. search rules)
+    returns)

@@ -8,15 +8,20 @@ use Rattle.segment_state.proofs.Laws.{length-state}
 use Rattle.compaction.proofs.write_segment.Statement.{statement}
 use Rattle.compaction.proofs.write_segment.Tie as tie
 
-slice-aggregate-write-log : tie.Need-slice-aggregate-write-log
+slice-aggregate-write-log : tie.Need-slice_bounds-write_log-end
 slice-aggregate-write-log c =
-    let start = c.before.before.before in
+    let start = c in
     sym (length-take-le 388 start.args.s.now (omega (arith, length-state start.args.s.now start.requires)))
 
 returns : tie.Need-returns
 unfolding segment_in
-returns c = c.before.before.write-log.ensures
+returns c = c.write_log.ensures
 
-pub write-segment-spec : {M : Type 1} → statement M
-write-segment-spec =
-    tie.close (tie.spec slice-aggregate-write-log (λ c κs. search rules) (λ c. search rules) returns)
+pub write_segment_spec : {M : Type 1} → statement M
+write_segment_spec =
+    tie.close
+    (tie.spec
+    slice-aggregate-write-log
+    (λ c κs. search rules)
+    (λ c. search rules)
+    returns)
