@@ -39,6 +39,7 @@ fn all_of_one_kind(t: &[u32]) -> bool
 }
 
 // Whether all routes may agree on an algorithm: 0 to 3, or a number that is set.
+#[tactic(auto, unfolding(crate::specs::Agreement::usable))]
 fn may_agree(settings: &[u32], algorithm: u32) -> bool
     requires { ValidSettings settings.now }
     ensures { result ≡ usable (settings_in settings.now) algorithm }

@@ -18,6 +18,7 @@ use rows::Found;
 use table::Verdict;
 
 // The entry stands in the table, in place of an older one of its address; 8 where its address is new and 64 are present.
+#[tactic(auto, using(crate::proofs::Admitted::admitting))]
 fn admit(t: &mut [u32], address: Address, e: Election) -> u8
     requires { Valid t.old }
     ensures answer { Stored (admitted (table_in t.old) (entry_of (address_row address) e)) result t.new }

@@ -34,6 +34,7 @@ fn put_offset(out: &mut [u8], at: usize, letter: u8, number: u8, offset: usize) 
 }
 
 // Whether an offset is printed after a number: after 1 to 4, 6 and 13.
+#[tactic(auto, unfolding(crate::specs::AnswerLines::has_offset))]
 fn has_offset(number: u8) -> bool
     ensures { result ≡ has_offset number }
 {

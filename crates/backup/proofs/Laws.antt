@@ -153,6 +153,9 @@ module _ (es : List Entry) (m : Method) (s tag : ℕ) where
   unfolding backup_by
   by-second at h g = ap (λ (x : Entry). named_backup x.address) g.1 ∙ sym (rw (length_at es s, le-ltb (length (places s)) 2 h))
 
+-- the answer for fewer than two, and for two and more
+pub ruleset named_or_not = (by-12, by-second)
+
 by-not-11 : (m : Method) (cs : List Entry) (tag : ℕ) → (backup_by m cs tag).number ≡ 11 → ⊥
 unfolding backup_by
 by-not-11 m cs tag = cond-by (λ (r : Backup). r.number ≡ 11 → ⊥) (ltb (length cs) 2) (λ _ h. omega (arith, h)) (λ _ h. omega (arith, h))

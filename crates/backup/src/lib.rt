@@ -68,6 +68,7 @@ fn second_of(t: &[u32], algorithm: u8, set: u64, n: u32, tag: u32) -> usize
 }
 
 // The answer for a set of places in use, by an algorithm: 12 where it has fewer than two.
+#[tactic(auto, using(crate::proofs::Laws::named_or_not))]
 pub fn backup_among(t: &[u32], algorithm: u8, set: u64, tag: u32) -> Backup
     requires { Valid t.now × (set < 2 ^ length (table_in t.now).entries) }
     ensures { result ≡ backup_by (by_tag algorithm tag (table_in t.now).esi) (entries_at (table_in t.now).entries (places set)) tag }

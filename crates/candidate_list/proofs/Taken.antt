@@ -142,3 +142,6 @@ module _ (t : Loaded) (v : ValidLoaded t) (c : Candidate) where
 pub loaded-none : (b : List ℕ) (n : ℕ) → Told (fresh_table (0 ∷ 0 ∷ 0 ∷ 0 ∷ 0 ∷ 0 ∷ 0 ∷ 0 ∷ 0 ∷ 1 ∷ [])) n 0 b → Valid b → NothingLoaded (record { wrong = false; words = b })
 unfolding fresh_table owner_of reserved all_are all
 loaded-none b n o v = ((v, ap (λ (t : Table). reserved t.esi) o.2), refl, ap (λ (t : Table). t.entries) o.2)
+
+-- what `address_of` answers for each family
+pub ruleset by_family = (is-four, is-six, is-neither)

@@ -64,6 +64,7 @@ fn unless_zero(a: Address) -> Originator
 }
 
 // The address of a record. A family that is neither 4 nor 6 has none, and address zero is none.
+#[tactic(auto, using(crate::proofs::Taken::by_family))]
 fn address_of(c: Candidate) -> Originator
     ensures { OriginatorOf c result }
 {

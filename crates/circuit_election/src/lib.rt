@@ -17,6 +17,7 @@ use refusals::{NONE_ELIGIBLE, TAG_RESERVED};
 
 // Elects over both tables: as the plain election does with the list of those routers of the route table that are ready for the tag by their A-D routes. This list is
 // never too long, so 11 is not answered.
+#[tactic(auto, using(crate::proofs::Laws::over_none, crate::proofs::Laws::nobody, answers::proofs::Laws::ones_none))]
 pub fn elect_by_circuits(t: &[u32], settings: &[u32], circuits: &[u32], tag: u32) -> Answer
     requires { Valid t.now × ValidSettings settings.now × ValidCircuits circuits.now }
     ensures answer { result ≡ elect_over (settings_in settings.now) (table_in t.now).esi (table_in t.now).entries (circuits_in circuits.now) tag }

@@ -33,6 +33,7 @@ fn is_reserved(scope: Scope) -> bool
 }
 
 // 0, or the number that refuses a route whatever the table holds: 6 for address zero, 10 for a reserved tag.
+#[tactic(auto, unfolding(lists::specs::Checks::first_refusal, crate::specs::Steps::ad_refused))]
 fn refused(scope: Scope, address: Address) -> u8
     ensures { result ≡ ad_refused scope (address_row address) }
 {

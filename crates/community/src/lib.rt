@@ -38,6 +38,7 @@ const NO_ELECTION: Election = Election {
 };
 
 // What a community says under an algorithm: DP and preference count under 2 and 3 only.
+#[tactic(auto, unfolding(crate::specs::Community::election_under))]
 fn under(algorithm: u8, ac_df: bool, dp: bool, preference: u16) -> Election
     ensures { result ≡ election_under algorithm ac_df dp preference }
 {

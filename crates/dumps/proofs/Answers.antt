@@ -2,7 +2,7 @@
 use Prim.Native.Nat.{ℕ, ◌+◌, ◌-◌, ◌≤◌}
 use native.Mathlib.Omega.{arith}
 use mathlib.Core.Path.{◌≡◌, refl, ap, ◌∙◌, sym, subst}
-use mathlib.Core.Bool.{Bool, true, false, ◌||◌}
+use mathlib.Core.Bool.{Bool, true, false, ◌||◌, or-true}
 use mathlib.Core.List.{List, []}
 use lib.ListN.{length, take, drop}
 use lib.Dec.{eqb}
@@ -57,10 +57,6 @@ module _ (a : List ℕ) (s t r : Bor (List ℕ)) (z : is_zero a ≡ false) (p q 
   unfolding holds
   holds-second = ap (λ (x : Place). eqb x.number 0) (sym eq)
 
-  or-true : (b : Bool) → (b || true) ≡ true
-  or-true true = refl
-  or-true false = refl
-
   pub first-broken : p.number ≡ 16 → r.now ≡ [] → Answered a s t 16 r
   unfolding last_number
   first-broken h w = refused a s t 16 r (refused-at 1 _ (z, tt) (rw (broken-first, eq-eqb _ _ h))) (λ n. omega arith) w
@@ -96,3 +92,26 @@ module _ (a : List ℕ) (s t r : Bor (List ℕ)) (z : is_zero a ≡ false) (p q 
       unfolding last_number
       in-neither x w =
           refused a s t 9 r (refused-at 2 _ (z, (whole-both, tt)) (rw (holds-first, holds-second, ne_eqb _ _ y, ne_eqb _ _ x))) (λ n. omega arith) w
+
+-- the number of a refusal, by itself
+module _ (a s t : List ℕ) where
+  pub zero_number : is_zero a ≡ true → last_number a s t ≡ 6
+  unfolding last_number
+  zero_number z = sym (refused-at 0 _ tt z)
+
+  module _ (z : is_zero a ≡ false) where
+    pub first_number : (last_in a s).number ≡ 16 → last_number a s t ≡ 16
+    unfolding last_number
+    first_number h = sym (refused-at 1 _ (z, tt) (rw (broken-number a s, eq-eqb _ _ h)))
+
+    pub second_number : (last_in a t).number ≡ 16 → last_number a s t ≡ 16
+    unfolding last_number
+    second_number h = sym (refused-at 1 _ (z, tt) (rw (broken-number a t, eq-eqb _ _ h) (or-true (is_broken (records_of s)))))
+
+    pub neither_number : ((last_in a s).number ≡ 16 → ⊥) → ((last_in a t).number ≡ 16 → ⊥) → ((last_in a s).number ≡ 0 → ⊥) → ((last_in a t).number ≡ 0 → ⊥) → last_number a s t ≡ 9
+    unfolding last_number holds
+    neither_number g h y x =
+        sym (refused-at 2 _ (z, (rw (broken-number a s, broken-number a t, ne_eqb _ _ g, ne_eqb _ _ h), tt)) (rw (ne_eqb _ _ y, ne_eqb _ _ x)))
+
+-- what the refusals of `last_announcement` go by
+pub ruleset refusal_numbers = (zero_number, first_number, second_number, neither_number, place-fits)

@@ -164,6 +164,7 @@ fn last(s: &[u8], address: Address) -> Place
 // Hands back the octets of the last announcement record of an address, mark and length included, from the first dump or, if there is none there, from the second: a part of that
 // dump, at its very place. The number goes through `number`: address zero, 6; either dump breaks the record rules, 16; neither has such a record, 9; else 0. With a refusal the part
 // is empty. Later withdrawals hide nothing; an announcement counts exactly if the route reader accepts its route; no text is read.
+#[tactic(auto, using(crate::proofs::Answers::refusal_numbers))]
 pub fn last_announcement<'a>(
     first: &'a [u8],
     second: &'a [u8],

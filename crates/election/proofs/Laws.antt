@@ -1,5 +1,5 @@
 -- Laws of the election: the checks in their order, and what an answer says, for every query. Assumes nothing.
-use Prim.Native.Nat.{ℕ, ◌≤◌, ◌<◌}
+use Prim.Native.Nat.{ℕ, ◌/◌, ◌≤◌, ◌<◌}
 use native.Mathlib.Omega.{arith}
 use mathlib.Core.Path.{◌≡◌, refl, ap, ◌∙◌, sym, subst}
 use mathlib.Core.Bool.{Bool, true, false, cond}
@@ -20,7 +20,8 @@ use Rattle.settings.specs.Settings.{Settings, SettingsRight, nothing_set}
 use Rattle.agreement.specs.Agreement.{in_use, in_use_with}
 use Rattle.agreement.specs.declared.InUse.{InUse}
 use Rattle.agreement.proofs.Laws.{in-use-none, in-use-four}
-use Rattle.ready.specs.Ready.{candidates, candidate_set}
+use Rattle.ready.specs.Ready.{candidates, candidate_set, ready_in}
+use Rattle.ready.proofs.Laws.{length-ready}
 use Rattle.answers.specs.Answers.{refused_answer, named_answer, Method, by_tag, answer_by, Forwarder}
 use Rattle.answers.specs.Steps.{digest_under, ElectedAt}
 use Rattle.answers.specs.declared.Answer.{Answer}
@@ -205,3 +206,10 @@ elect-none i l tag ready =
     ap (λ (u : InUse). cond (reserved_tag tag) (refused_answer 10) (cond (ltb 64 (length ready)) (refused_answer 11) (answer_by (method_for nothing_set plain u.algorithm tag i) (candidates u.ac_df ready l) (candidate_set u.ac_df ready l) tag))) (in-use-none l)
     ∙ ap (λ (m : Method). cond (reserved_tag tag) (refused_answer 10) (cond (ltb 64 (length ready)) (refused_answer 11) (answer_by m (candidates (in_use l).ac_df ready l) (candidate_set (in_use l).ac_df ready l) tag)))
     (plain-method nothing_set (in_use l).algorithm tag i ∙ ap (λ (a : ℕ). by_tag a tag i) (plain-four tag (in_use l).algorithm (in-use-four l)))
+
+-- A LIST OVER 64, said of its words
+pub elect_long : (s : Settings) (q : Query) (i : List ℕ) (l : List Entry) (tag : ℕ) (w : List ℕ) → reserved_tag tag ≡ false → 64 < length w / 5
+    → elect_with s q i l tag (ready_in w) ≡ refused_answer 11
+elect_long s q i l tag w h k = sym (elects-11 s q i l tag (ready_in w) h (rw (length-ready w) k)).0
+
+pub ruleset too_long = (elect_long, length-ready)

@@ -22,6 +22,7 @@ use refusals::{FLOW_LENGTH, NONE_ELIGIBLE, READY_TOO_LONG, TAG_RESERVED};
 const MAX_READY: usize = 64;
 
 // The algorithm of a plain query for a tag: the one in use, but algorithm 1 where the routes agree on a number that is set, and for 2 and 3 the one that the tag's range names.
+#[tactic(auto, unfolding(crate::specs::Queries::plain_algorithm))]
 pub fn plain_algorithm(settings: &[u32], tag: u32, in_use: u8) -> u8
     requires { ValidSettings settings.now × (reserved_tag tag ≡ false) }
     ensures { result ≡ plain_algorithm (settings_in settings.now) tag in_use }
@@ -36,6 +37,7 @@ pub fn plain_algorithm(settings: &[u32], tag: u32, in_use: u8) -> u8
 }
 
 // Whether the algorithm in use is a number that is set; 0 is none.
+#[tactic(auto, unfolding(crate::specs::Queries::agreed_on))]
 fn agreed_on(in_use: u8, number: u8) -> bool
     ensures { result ≡ agreed_on in_use number }
 {
@@ -98,6 +100,7 @@ fn method(
 // Elects for a query of any kind: `number` is the one that is set for its kind, or 0; `right` tells whether the addresses of its flow, S and G, have right
 // lengths, which are whole words of four octets. Of a plain query both are empty, as S is for a flow (*,G). 10 for a reserved tag, 11 for a ready list over 64 rows of five words, 18 for a wrong
 // length, 12 where no route is eligible.
+#[tactic(auto, using(crate::proofs::Laws::too_long, answers::proofs::Laws::ones_none))]
 pub fn elect_query(
     t: &[u32],
     settings: &[u32],

@@ -2,7 +2,7 @@
 use Prim.Native.Nat.{ℕ, ◌+◌, ◌*◌, ◌≤◌, ◌<◌}
 use native.Mathlib.Omega.{arith}
 use mathlib.Core.Path.{◌≡◌, refl, ap, ap₂, sym, ◌∙◌}
-use mathlib.Core.Logic.{⊎_elim}
+use mathlib.Core.Logic.{⊎_elim, inl, inr}
 use mathlib.Core.List.{List, [], ◌∷◌, ◌++◌, map}
 use lib.ListN.{length, length-map, length-drop, get_or, take, drop, get_or-append}
 use lib.Seq.{length-take-le, drop_at, take-add, drop-drop, get_or-take}
@@ -220,3 +220,36 @@ stranger b row h m n =
     (λ l. omega (arith, look-more entry_key k es 1 no_entry h.sound.rising 0 l (below l)))
     (λ l. omega (arith, keyed.rank-le entry_key k es)) in
     look_none entry_key k es 1 no_entry h.sound.rising 0 lowest below
+
+-- A ROW THAT NAMES NO ADDRESS is missing at 0
+pub stranger_missing : (b row : List ℕ) → Valid b → (NamesAddress row → ⊥) → found_in entry_key (address_key (listed_in row)) (table_in b).entries ≡ Missing 0
+stranger_missing b row h s = sym (stranger b row h (λ f. s (inl f)) (λ f. s (inr f)))
+
+-- what a lookup answers without a look at the place that is proposed
+pub ruleset without_first = (first-none, stranger_missing)
+
+-- AN ENTRY AND A ROW, said of the words
+module _ (b : List ℕ) (i : ℕ) (row : List ℕ) (h : Valid b) (u : i < length (table_in b).entries) (n : length row ≡ 5) (w : Words b) (v : Words row) where
+  pub near : Beside b i row
+  near = record {
+    valid = h;
+    used = u;
+    words = w;
+    five = n;
+    row_words = v;
+  }
+
+  -- their first parts are the same
+  module _ (e : key_order (row_key (take (length (take 2 row)) (drop (i * 5) b))) (row_key (take 2 row)) ≡ Equal) where
+    pub order_four : get_or row 0 0 ≡ 4 → key_order (entry_key (get_or (table_in b).entries i no_entry)) (address_key (listed_in row)) ≡ Equal
+    order_four f = sym (four_same near _ refl e f)
+
+    pub order_six : (get_or row 0 0 ≡ 4 → ⊥) → key_order (entry_key (get_or (table_in b).entries i no_entry)) (address_key (listed_in row))
+        ≡ key_order (row_key (take (length (take 3 (drop 2 row))) (drop (i * 5 + 2) b))) (row_key (take 3 (drop 2 row)))
+    order_six m = sym (six-rest near _ refl e m _ refl)
+
+    pub names_address : NamesAddress row
+    names_address = names near _ refl e
+
+-- what the second part of a row adds, where the first parts are the same
+pub ruleset second_part = (order_four, order_six, names_address)

@@ -18,6 +18,7 @@ use rows::{Found, Lookup, Order};
 const HEAD: usize = 2;
 
 // The address that a row of a ready list names; address zero, which stands in no table, where the row's family is neither.
+#[tactic(auto, unfolding(address::specs::Address::address_row, address::specs::Address::listed_in))]
 fn listed(row: &[u32]) -> Address
     requires { length row.now ≡ 5 }
     ensures { address_row result ≡ listed_in row.now }
@@ -52,6 +53,7 @@ fn listed(row: &[u32]) -> Address
 
 // How the entry at a place stands to the address that a row of a ready list names, where the row's family is 4 or 6; no entry equals a row of another family. The family and the
 // first word decide, or all five words: in an IPv4 row the words after the first don't count, and an IPv4 entry has zeros there.
+#[tactic(auto, using(crate::proofs::Lookups::second_part))]
 fn order_at(t: &[u32], at: usize, row: &[u32]) -> Order
     requires { Valid t.now × (at < length (table_in t.now).entries) × (length row.now ≡ 5) }
     ensures order { NamesAddress row.now → result ≡ key_order (entry_key (get_or (table_in t.now).entries at no_entry)) (address_key (listed_in row.now)) }
@@ -110,6 +112,7 @@ fn after_first(t: &[u32], first: usize, order: Order, row: &[u32]) -> Lookup
 // Looks the address of a row of a ready list up near a place. The first look is at the entry at the place `first`, the row compared as it stands in the list: where it is that
 // of the address, as in a list that rises as the table does, this look is all; else the search goes on from its outcome. Where `first` is no place in use the first look
 // is in the middle. No entry is compared twice. A row whose family is neither 4 nor 6 is never found; the place that is told then says nothing.
+#[tactic(auto, using(crate::proofs::Lookups::without_first))]
 pub fn lookup(t: &[u32], first: usize, row: &[u32]) -> Lookup
     requires { Valid t.now × (length row.now ≡ 5) }
     ensures found { NamesAddress row.now → result.found ≡ found_in entry_key (address_key (listed_in row.now)) (table_in t.now).entries }

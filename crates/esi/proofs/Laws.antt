@@ -1,21 +1,21 @@
 -- Laws on reserved identifiers and on the text of an identifier, for the proofs of this crate and of those above.
 -- Assumes nothing.
-use Prim.Native.Nat.{ℕ, ◌<◌, ◌≤◌}
+use Prim.Native.Nat.{ℕ, ◌+◌, ◌<◌, ◌≤◌}
 use native.Mathlib.Omega.{arith}
 use mathlib.Core.Path.{◌≡◌, refl, sym, ap, ◌∙◌}
 use mathlib.Core.Bool.{Bool, true, false, cond, not, ◌||◌, and-eq-true_iff, and-false}
 use mathlib.Core.List.{List, ◌++◌}
-use lib.ListN.{length, take, drop, replicate}
+use lib.ListN.{length, set, take, drop, replicate}
 use lib.Seq.{take_all, take_at}
 use lib.Dec.{eqb}
 use borrow.Author.Tests.{not-false, eq-eqb, ne_eqb, eqb-true, lt-ltb, le-ltb}
 use Rattle.lists.proofs.Bools.{or_left}
 use Rattle.lists.proofs.Checks.{refused-at, refused_none}
 use Rattle.octets.specs.Octets.{all_are}
-use Rattle.octets.proofs.Laws.{Octets, octets-replicate}
+use Rattle.octets.proofs.Laws.{Octets, octets-replicate, front-next, front-all}
 use Rattle.esi.specs.declared.TextRead.{TextRead}
 use Rattle.esi.specs.Reserved.{reserved}
-use Rattle.esi.specs.Text.{first_wrong, FirstFault, well_formed, esi_in, accepted, refused, read_text, text_of, lower_case, write_text_number, text_written}
+use Rattle.esi.specs.Text.{first_wrong, right_in, FirstFault, well_formed, esi_in, accepted, refused, read_text, character_at, text_of, lower_case, write_text_number, text_written}
 use Rattle.esi.proofs.Places.{Right, length-text, get_d-text, esi-octets, text-esi, text-right, esi-text, first-fault, right-each, each_right}
 
 -- ---- reserved identifiers
@@ -110,6 +110,18 @@ module _ (t : List ℕ) where
       read-cases t (λ a. a.number ≡ 0 → text_of a.esi ≡ lower_case t) (λ w e. absurd (omega arith)) (λ w r e. absurd (omega arith))
       (λ w r e. text-esi t (well-formed-length t w) o (well-formed-right t w))
 
+-- what the code of reading goes by: the two halves of a fault, and the text of what was read
+pub fault_before : (t : List ℕ) (i : ℕ) → i < first_wrong t → right_in t i ≡ true
+fault_before t i h = (first-fault t).0 i h
+
+pub fault_at : (t : List ℕ) → right_in t (first_wrong t) ≡ false
+fault_at t = (first-fault t).1
+
+pub text_of_found : (t : List ℕ) → length t ≡ 29 → first_wrong t ≡ 29 → Octets t → text_of (esi_in t) ≡ lower_case t
+text_of_found t n e o = text-esi t n o (well-formed-right t (well-formed t n e))
+
+pub ruleset reading = (fault_before, fault_at, text_of_found)
+
 -- ---- reading what was written
 
 module _ (s : List ℕ) (o : Octets s) where
@@ -150,3 +162,39 @@ module _ (d s : List ℕ) where
 
   pub take-written : 0 ≡ write_text_number (length d) s → take 29 (text_written d s) ≡ text_of s
   take-written e = rw (written-text e) (take_at (text_of s) (drop 29 d) 29 (length-text s))
+
+-- the same answers, and the buffer with each, by what the code finds
+module _ (d s : List ℕ) where
+  module _ (h : reserved s ≡ true) where
+    pub number_reserved : write_text_number (length d) s ≡ 4
+    number_reserved = sym (number-reserved d s h)
+
+    pub buffer_reserved : text_written d s ≡ d
+    buffer_reserved = written-refused d s (omega (arith, number_reserved))
+
+  module _ (h : reserved s ≡ false) where
+    pub number_under : length d < 29 → write_text_number (length d) s ≡ 14
+    number_under k = sym (number_short d s h k)
+
+    pub buffer_under : length d < 29 → text_written d s ≡ d
+    buffer_under k = written-refused d s (omega (arith, number_under k))
+
+    pub number_stands : 29 ≤ length d → write_text_number (length d) s ≡ 0
+    number_stands k = sym (number-written d s h k)
+
+    pub buffer_stands : 29 ≤ length d → text_written d s ≡ text_of s ++ drop 29 d
+    buffer_stands k = written-text d s (number-written d s h k)
+
+    pub text_reads : Octets s → read_text (take 29 (text_of s ++ drop 29 d)) ≡ accepted s
+    text_reads o = rw (take_at (text_of s) (drop 29 d) 29 (length-text s)) (read-of-text s o h)
+
+  -- the buffer while the text is written, up to offset i and at the end
+  pub text_further : (i : ℕ) → i < 29 → i < length d
+      → set (take i (text_of s) ++ drop i d) i (character_at s i) ≡ take (i + 1) (text_of s) ++ drop (i + 1) d
+  text_further i n k = rw (← get_d-text s i n) (front-next d (text_of s) i k (rw (length-text s) n))
+
+  pub text_all : (i : ℕ) → i ≡ 29 → take i (text_of s) ++ drop i d ≡ text_of s ++ drop 29 d
+  text_all i e = rw e (front-all d (text_of s) 29 (length-text s))
+
+-- what the code of writing goes by
+pub ruleset writing = (number_reserved, buffer_reserved, number_under, buffer_under, number_stands, buffer_stands, text_all, length-not-reserved)

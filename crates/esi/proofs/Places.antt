@@ -73,6 +73,28 @@ module _ (t : List ℕ) (i : ℕ) where
   unfolding wrong_from
   wrong-next h w = rw (add-one, drop-cons t i 0 h, w)
 
+-- the same of the first 29 characters, by what the code finds at offset i
+module _ (t : List ℕ) where
+  pub wrong_first : first_wrong t ≡ wrong_from 0 (drop 0 (take 29 t))
+  unfolding first_wrong
+  wrong_first = refl
+
+  module _ (i : ℕ) where
+    pub wrong_past : 29 ≤ i → wrong_from i (drop i (take 29 t)) ≡ i
+    wrong_past h = wrong-end (take 29 t) i (omega (arith, length-take 29 t))
+
+    pub wrong_missing : length t ≤ i → wrong_from i (drop i (take 29 t)) ≡ i
+    wrong_missing h = wrong-end (take 29 t) i (omega (arith, length-take 29 t))
+
+    pub wrong_found : i < 29 → i < length t → right_at i (get_or t i 0) ≡ false → wrong_from i (drop i (take 29 t)) ≡ i
+    wrong_found n h w = wrong-here (take 29 t) i (omega (arith, length-take 29 t)) (rw (get_or-take 29 t i 0 n) w)
+
+    pub wrong_further : i < 29 → i < length t → right_at i (get_or t i 0) ≡ true
+        → wrong_from i (drop i (take 29 t)) ≡ wrong_from (i + 1) (drop (i + 1) (take 29 t))
+    wrong_further n h w = wrong-next (take 29 t) i (omega (arith, length-take 29 t)) (rw (get_or-take 29 t i 0 n) w)
+
+pub ruleset first_of_29 = (wrong_first, wrong_missing, wrong_found, wrong_further)
+
 cond-first : (b : Bool) (x y z : ℕ) → cond b x y ≡ z → (y ≡ z → ⊥) → b ≡ true
 cond-first true x y z e n = refl
 cond-first false x y z e n = absurd (n e)

@@ -55,6 +55,7 @@ pub fn is_reserved(esi: &[u8]) -> bool
 }
 
 // The number of a digit; 16 for a character that is none. The letters O and l are none.
+#[tactic(auto, unfolding(crate::specs::Text::value_of_digit))]
 fn digit_value(c: u8) -> u8
     ensures { result ≡ value_of_digit c }
 {
@@ -77,6 +78,7 @@ fn right_at(i: usize, c: u8) -> bool
 }
 
 // The offset of the first wrong character among the first 29; else the text's length if that is under 29, else 29.
+#[tactic(auto, using(crate::proofs::Places::first_of_29))]
 fn first_wrong(text: &[u8]) -> usize
     ensures { result ≡ first_wrong text.now }
 {
@@ -129,6 +131,7 @@ fn refusal(number: u8, offset: usize) -> TextRead
 // Reads the text of an identifier: 13 unless it is 29 characters, ten pairs of digits with a colon between pairs; then 4 for a
 // reserved identifier; else 0 and the identifier. With 13 comes the offset of the first fault: every character before it is right, and the one at
 // it is wrong, or missing, or one too many; else the offset is 0. The text of what was read is the text itself, in lower case.
+#[tactic(auto, using(crate::proofs::Laws::reading), unfolding(crate::specs::Text::read_text, crate::specs::Text::well_formed))]
 pub fn read_text(text: &[u8]) -> TextRead
     ensures answer { result ≡ read_text text.now }
     ensures fault { result.number ≡ 13 → FirstFault text.now result.offset }
@@ -169,6 +172,7 @@ fn text_at(esi: &[u8], i: usize) -> u8
 
 // Writes the text of an identifier, in lower case, into the first 29 characters of a buffer, and answers 0. A reserved identifier is
 // refused with 4, then a buffer under 29 with 14; a refusal changes nothing. Reading what was written gives the identifier back.
+#[tactic(auto, using(crate::proofs::Laws::writing))]
 pub fn write_text(buf: &mut [u8], esi: &[u8]) -> u8
     ensures number { result ≡ write_text_number (length buf.old) esi.now }
     ensures buffer { buf.new ≡ text_written buf.old esi.now }

@@ -130,6 +130,7 @@ fn is_due(m: Machine, now: u32) -> bool
 
 // A machine in INIT with a wait of 1 to 600 seconds; for any other wait 17, and a machine in INIT with wait 0. Whatever list of events and clock
 // readings follows, the claims hold of the machine that it leaves.
+#[tactic(auto, using(crate::proofs::Lists::claimed), unfolding(crate::specs::Machine::made_of))]
 pub fn make(wait: u32) -> Answer
     ensures answer { result ≡ made_of wait }
     ensures runs { (l : List Item) → Claims result.machine (run result.machine l) }

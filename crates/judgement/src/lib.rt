@@ -26,6 +26,7 @@ pub enum Judged {
 }
 
 // What a record is that should be an announcement: bad where it ends before its route does.
+#[tactic(auto, unfolding(crate::specs::Judgement::announcement_of, route::specs::Route::total_of))]
 fn announcement(payload: &[u8]) -> Judged
     ensures { result ≡ announcement_of payload.now }
 {
@@ -52,6 +53,7 @@ fn withdrawal(payload: &[u8], v6: bool) -> Judged
 }
 
 // What a record is that should be a query: bad unless it is a tag and whole addresses.
+#[tactic(auto, unfolding(crate::specs::Judgement::query_of, payloads::specs::Payloads::size_of))]
 fn query(payload: &[u8], v6: bool) -> Judged
     ensures { result ≡ query_of v6 payload.now }
 {
@@ -65,6 +67,7 @@ fn query(payload: &[u8], v6: bool) -> Judged
 }
 
 // What the first record is, by its kind: its payload is not looked at.
+#[tactic(auto, unfolding(crate::specs::Judgement::first_of))]
 fn first_record(kind: u8) -> Judged
     ensures { result ≡ first_of kind }
 {

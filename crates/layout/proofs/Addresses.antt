@@ -4,7 +4,7 @@ use native.Mathlib.Omega.{arith}
 use native.Mathlib.Nat.{mod-eq_of_lt}
 use mathlib.Core.Path.{◌≡◌, refl, ap, ◌∙◌, sym}
 use mathlib.Core.List.{List, [], ◌∷◌}
-use mathlib.Core.Logic.{◌⊎◌}
+use mathlib.Core.Logic.{◌⊎◌, ◌≢◌}
 use lib.ListN.{length, get_or}
 use Rattle.lists.proofs.Lists.{every_in}
 use Rattle.rows.specs.Rows.{row_key}
@@ -66,6 +66,13 @@ module _ (b : List ℕ) (h : Valid b) (i : ℕ) (l : i < length (table_in b).ent
   pub low-last : Words b → (family_of r ≡ 4 → ⊥) → get_or b (5 * i + 4) 0 ≡ address_number r % 2 ^ 32
   low-last o f = address_word b h i l 4 (omega arith) ∙ low-six r is_address (words-in o) f
 
+  -- the same, as a family handed in tells them apart; what is told of the words is their size alone
+  pub first_word_low : ((j : ℕ) → get_or b j 0 < 2 ^ 32) → family_of r ≡ 4 → address_number r % 2 ^ 32 ≡ get_or b (5 * i + 1) 0
+  first_word_low o f = sym (low_first (λ j. o j) f)
+
+  pub last_word_low : ((j : ℕ) → get_or b j 0 < 2 ^ 32) → (family_of r ≢ 4) → address_number r % 2 ^ 32 ≡ get_or b (5 * i + 4) 0
+  last_word_low o f = sym (low-last (λ j. o j) f)
+
   pub four-words : get_or b (5 * i + 1) 0 ∷ get_or b (5 * i + 2) 0 ∷ get_or b (5 * i + 3) 0 ∷ get_or b (5 * i + 4) 0 ∷ [] ≡ address_words r
   unfolding address_words
   four-words =
@@ -75,3 +82,6 @@ module _ (b : List ℕ) (h : Valid b) (i : ℕ) (l : i < length (table_in b).ent
 module _ (b : List ℕ) (h : Valid b) (o : Words b) where
   pub families-rise : (i j : ℕ) → i < j → j < length (table_in b).entries → family_of (get_or (table_in b).entries i no_entry).address ≤ family_of (get_or (table_in b).entries j no_entry).address
   families-rise i j g l = family-rises _ _ (is_address b h i (omega arith)) (is_address b h j l) (words-in b h j l o) (keyed.rising-pairs entry_key (table_in b).entries 1 no_entry h.sound.rising i j g l)
+
+-- the low word of an address, by its family
+pub ruleset low_words = (first_word_low, last_word_low)

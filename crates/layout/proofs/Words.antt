@@ -206,3 +206,9 @@ module _ (b : List ℕ) (h : Valid b) where
   -- the identifier's words
   pub esi-words : drop 385 b ≡ identifier_words table.esi
   esi-words = ap (drop 385) h.whole ∙ esi-at table short right
+
+-- how many entries lie in the words, and how long these are
+pub valid_short : (b : List ℕ) → Valid b → length (table_in b).entries ≤ 64
+valid_short b h = h.sound.short
+
+pub ruleset sizes = (length-valid, valid_short)

@@ -63,6 +63,7 @@ pub fn words_at(t: &[u32], at: usize) -> [u32; 4]
 }
 
 // The low 32 bits of the address at a place, whose family is handed in.
+#[tactic(auto, using(crate::proofs::Addresses::low_words, crate::proofs::Words::sizes))]
 pub fn low_word_in(t: &[u32], at: usize, family: u8) -> u32
     requires { Valid t.now × (at < length (table_in t.now).entries) × (family ≡ family_of (get_or (table_in t.now).entries at no_entry).address) }
     ensures { result ≡ address_number (get_or (table_in t.now).entries at no_entry).address % 2 ^ 32 }

@@ -155,6 +155,9 @@ module _ (s i : ℕ) where
       let q : 1 ≤ s / 2 ^ i = omega arith in
       omega (arith, div-add-mod' s (2 ^ i), mul-le-mul_right (2 ^ i) q)
 
+-- a place that is in the set can be taken from it
+pub ruleset one_less = (bit-there, pow_pos)
+
 pub without_place-set : (bs : List Bool) (i : ℕ) → i < 64 → get_or bs i false ≡ true → without_place (set_of bs) i ≡ set_of (set bs i false)
 unfolding without_place
 without_place-set bs i h q =

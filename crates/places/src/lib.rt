@@ -58,6 +58,7 @@ pub fn with(s: u64, i: usize) -> u64
 }
 
 // The set s without the place i; s unchanged where i is not in it.
+#[tactic(auto, using(crate::proofs::Laws::shift_one, crate::proofs::Flags::one_less), unfolding(crate::specs::Places::without_place))]
 pub fn without(s: u64, i: usize) -> u64
     ensures { result ≡ without_place s i }
 {

@@ -8,6 +8,7 @@ ghost use Rattle.answer_lines.specs.AnswerLines.{address_text, elected_line, que
 use answers::Answer;
 
 // Puts an address: IPv4 dotted, IPv6 as 32 hexadecimal digits.
+#[tactic(auto, using(crate::proofs::Laws::text_hex, crate::proofs::Laws::text_dotted))]
 fn put_address(out: &mut [u8], at: usize, family: u8, a: [u32; 4]) -> usize
     ensures { Put out.old at (address_text family a) result out.new }
 {

@@ -114,6 +114,9 @@ module _ (w : List ℕ) (i : ℕ) (h : i < length w / 3) where
     pub ends-behind : first ≤ get_or w (j * 3 + 1) 0 → leb (get_or w (j * 3) 0) last ≡ overlap range_at (get_or (ranges_of w) j [])
     ends-behind n = sym (overlap-words ∙ rw (le-leb first (get_or w (j * 3 + 1) 0) n))
 
+-- the tests of one range, in their order
+pub ruleset range_tests = (first-reserved, last-reserved, backwards, names-two, names-other)
+
 -- A WALK over a list: the test of all from a place on
 module _ {A : Type 0} (test : A → Bool) (l : List A) (d : A) where
   all-step : (i : ℕ) → i < length l → all test (drop i l) ≡ (test (get_or l i d) && all test (drop (i + 1) l))

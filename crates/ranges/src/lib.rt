@@ -30,6 +30,7 @@ pub fn fresh() -> [u32; WORDS]
 }
 
 // Whether range i of a run of numbers, three to a range, may be one: 2 or 3, tags that are not reserved, the first not above the last.
+#[tactic(auto, using(crate::proofs::Laws::range_tests))]
 fn range_right(run: &[u32], i: usize) -> bool
     requires { i < length run.now / 3 }
     ensures { result ≡ range_right (get_or (ranges_of run.now) i []) }

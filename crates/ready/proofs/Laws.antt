@@ -126,6 +126,15 @@ set_all ready l ac n b e =
     all [] = refl
     all (x ∷ m) = ap (true ∷◌) (all m)
 
+-- the candidates as a set, with AC-DF and without
+pub candidates_listed : (ac : Bool) (ready : List (List ℕ)) (l : List Entry) → ac ≡ true → candidate_set ac ready l ≡ set_of (flags ready l)
+candidates_listed ac ready l b = sym (set-ready ready l ac b)
+
+pub candidates_all : (ac : Bool) (ready : List (List ℕ)) (l : List Entry) → ac ≡ false → candidate_set ac ready l ≡ set_of (replicate (length l) true)
+candidates_all ac ready l b = sym (set_all ready l ac (length l) b refl)
+
+pub ruleset candidates_by_bit = (candidates_listed, candidates_all)
+
 -- WHAT A LOOKUP TELLS of a row of the list, whose family is 4 or 6, or neither
 by-family : {P : Type 0} (r : List ℕ) → (NamesAddress r → P) → ((NamesAddress r → ⊥) → P) → P
 by-family r n s =

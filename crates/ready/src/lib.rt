@@ -40,6 +40,7 @@ pub fn ready_set(t: &[u32], ready: &[u32]) -> u64
 }
 
 // The candidate set: all places in use or, with AC-DF in use, those on the ready list.
+#[tactic(auto, using(crate::proofs::Laws::candidates_by_bit))]
 pub fn candidate_set(t: &[u32], ac_df: bool, ready: &[u32]) -> u64
     requires { Valid t.now }
     ensures { result ≡ candidate_set ac_df (ready_in ready.now) (table_in t.now).entries }

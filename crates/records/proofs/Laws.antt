@@ -24,3 +24,6 @@ module _ (d : List ℕ) (at : ℕ) (p : List ℕ) where
   pub takes-long : 255 < length p → takes d at p ≡ false
   unfolding takes
   takes-long h = rw (lt-leb (length p) 255 h) (and-false (leb (at + 48) (length d)))
+
+-- whether a record is taken, in all cases
+pub ruleset taking = (takes-room, takes-short, takes-long)

@@ -36,6 +36,19 @@ module _ (h : Phase) (t : Table) (k : ℕ) (p : List ℕ) where
   unfolding turn_in
   turn-later q = rw q
 
+  -- the same, said of the record's turn
+  pub turn_begun : h ≡ Start → k ≡ 0 → turn_in h t k p ≡ text_turn t p
+  turn_begun q e = sym (turn-begin q e)
+
+  pub turn_refused : h ≡ Start → (k ≡ 0 → ⊥) → turn_in h t k p ≡ bad_turn t
+  turn_refused q e = sym (turn-none q e)
+
+  pub turn_judged : h ≡ Running → turn_in h t k p ≡ judged_turn t false k p
+  turn_judged q = sym (turn-later q)
+
+-- the turn of a record before the end, by the phase and the kind
+pub ruleset turn_by_phase = (turn_begun, turn_refused, turn_judged)
+
 pub stepped-ended : (h : Phase) (v : List ℕ) (k : ℕ) (p d : List ℕ) (at : ℕ) → h ≡ Ended → at ≤ length d → Valid v
     → Stepped d at (turn_in h (table_in v) k p) (record { phase = h; at = at }) v d
 unfolding turn_in

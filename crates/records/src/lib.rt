@@ -31,6 +31,7 @@ fn later(t: &mut [u32], kind: u8, payload: &[u8], out: &mut [u8], at: usize) -> 
 }
 
 // One whole record, in any state. The first is judged here, by its kind, so that the judgement of the others stands alone.
+#[tactic(auto, using(crate::proofs::Turns::turn_by_phase))]
 fn carry_out(
     t: &mut [u32],
     phase: Phase,
@@ -56,6 +57,7 @@ fn carry_out(
 
 // One whole record, in any state: its line is put from position `at` on. Where fewer than 48 octets are left there, or where the payload has more than
 // 255 octets, which no frame holds, nothing is done: the answer is `phase` and `at`, and the table and the buffer stay as they are.
+#[tactic(auto, using(crate::proofs::Laws::taking))]
 pub fn take_turn(
     t: &mut [u32],
     phase: Phase,

@@ -94,6 +94,9 @@ some_at es s h n e =
     let w = ap length (places-walk s h n) in
     omega (arith, e, l, w)
 
+-- both, for `beside`, which the check proves
+pub ruleset whether_any_stands = (none-at, some_at)
+
 -- WHAT IS SENT beside the other routes
 standing-halves : (e : Entry) → (standing_of e / 2 ≡ e.preference) × (eqb (standing_of e % 2) 1 ≡ e.dp)
 unfolding standing_of

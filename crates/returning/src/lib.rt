@@ -78,6 +78,7 @@ fn reach(algorithm: u8, own: u16, reference: u16) -> bool
 }
 
 // What is sent beside the reference of algorithm 2 or 3 among the routes of a set of places, where the own DP is set.
+#[tactic(auto, unfolding(crate::specs::Returning::beside_reference, crate::specs::Returning::fits, layout::specs::Words::standing_of))]
 fn beside_reference(t: &[u32], set: u64, algorithm: u8, preference: u16) -> Sent
     requires { Valid t.now × (set < 2 ^ length (table_in t.now).entries) × (set ≡ 0 → ⊥) × (algorithm ≡ 1 → ⊥) }
     ensures { result ≡ beside_reference algorithm preference true (reference algorithm (entries_at (table_in t.now).entries (places set))) }
@@ -116,6 +117,7 @@ fn beside_both(t: &[u32], set: u64, preference: u16) -> Sent
 }
 
 // What is sent beside the other routes, which stand at a set of places, where the own algorithm is 2 or 3; `ranges` tells whether any range is set.
+#[tactic(auto, using(crate::proofs::Laws::whether_any_stands), unfolding(crate::specs::Returning::advertised, crate::specs::Returning::advertised_both, crate::specs::Returning::keeps_own))]
 fn beside(t: &[u32], set: u64, ranges: bool, algorithm: u8, preference: u16, dp: bool) -> Sent
     requires { Valid t.now × (set < 2 ^ length (table_in t.now).entries) × (algorithm ≡ 1 → ⊥) }
     ensures { result ≡ cond ranges (advertised_both algorithm preference dp (entries_at (table_in t.now).entries (places set))) (advertised algorithm preference dp (entries_at (table_in t.now).entries (places set))) }
@@ -153,6 +155,7 @@ fn refusal(number: u8) -> Sent
 // What a returning router advertises: 15 for an own algorithm that is not 2 or 3, 6 for address zero. The own entry is passed over. The administrative pair is
 // sent unless the own DP is set, others stand, all on the own algorithm, and the reference among them has DP set and a preference that the own one reaches:
 // then the reference's preference is sent with DP clear. With any range set both references are tried, the Highest before the Lowest.
+#[tactic(auto, unfolding(crate::specs::Returning::returning_with))]
 pub fn returning(
     t: &[u32],
     settings: &[u32],

@@ -104,6 +104,7 @@ fn originator(s: &[u8]) -> Address
 
 // The checks that go by the family, for a route of type 4 whose address length is right: not 25 (37) octets or length octet not 23 (35), 1; identifier reserved, 4;
 // address zero, 6. `wanted` is how many octets it should have.
+#[tactic(auto, using(crate::proofs::Framed::checks_told))]
 fn check_framed(s: &[u8], wanted: usize) -> Checked
     requires { (21 ≤ length s.now) × (get_or s.now 0 0 ≡ 4) × ((eqb (get_or s.now 20 0) 32 || eqb (get_or s.now 20 0) 128) ≡ true) × (wanted ≡ route_total s.now) }
     ensures { result ≡ route_checked s.now }

@@ -6,12 +6,13 @@ use mathlib.Core.Bool.{Bool, true, false, cond, false≢true}
 use mathlib.Core.List.{List, [], ◌∷◌, ◌++◌}
 use lib.ListN.{replicate, length, take, drop, length-append}
 use borrow.Author.Tests.{eq-eqb, ne_eqb}
+use Rattle.octets.specs.Octets.{stored}
 use Rattle.octets.proofs.Laws.{stored-front}
 use Rattle.layout.specs.Table.{Table}
 use Rattle.table.specs.Table.{fresh_table, Told}
 use Rattle.frames.specs.Frames.{Front, nothing, bad, cut, whole, front}
 use Rattle.frames.proofs.Laws.{WholeAt, cut-begun, nothing-empty, whole-record, whole_append, bad-append}
-use Rattle.lines.specs.Lines.{Put}
+use Rattle.lines.specs.Lines.{Put, position_after}
 use Rattle.lines.proofs.Laws.{put-made}
 use Rattle.turns.specs.declared.Phase.{Phase}
 use Rattle.turns.specs.declared.Phase.TheVariants.{Start}
@@ -158,3 +159,16 @@ end-of-part b s p = by_end (has_ended b) refl
     by_end : (t : Bool) → has_ended b ≡ t → run_from b s ≡ end_of b.phase s
     by_end true h = run-ended b s h ∙ sym (end-ended b.phase s h)
     by_end false h = end-part b s (front s) h refl p
+
+-- where a run ends: no octets are printed, and none stored
+pub nothing_after : (d l : List ℕ) → l ≡ [] → position_after d 0 l ≡ 0
+nothing_after d l e = rw e (sym (put-none d).position)
+
+pub nothing_stored : (d l : List ℕ) → l ≡ [] → stored d 0 l ≡ d
+nothing_stored d l e = rw e (sym (put-none d).buffer)
+
+pub run_part : (f : Phase) (t : Table) (s : List ℕ) → is_part (front s) ≡ true → run_from (record { phase = f; table = t }) s ≡ end_of f s
+run_part f t s = end-of-part (in_phase f t) s
+
+-- what shows that `finish` meets its contract
+pub ruleset finishing = (end-ended, end_empty, end-left, nothing_after, nothing_stored, run_part)

@@ -50,6 +50,7 @@ pub fn start() -> Begun
 // Puts what is printed where the input ends with the octets `rest`, which are no whole record: `x 16` if there are any and the run has not
 // ended. Answers how many octets that is; where they do not fit, the buffer stays as it is and the answer is 0. It is what the run on
 // those octets prints, whatever its table.
+#[tactic(auto, using(crate::proofs::Runs::finishing))]
 pub fn finish(phase: Phase, rest: &[u8], out: &mut [u8]) -> usize
     ensures answer { Put out.old 0 (end_of phase rest.now) result out.new }
     ensures run { (t : Table) → is_part (front rest.now) ≡ true → run_from (record { phase = phase; table = t }) rest.now ≡ end_of phase rest.now }

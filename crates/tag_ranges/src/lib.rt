@@ -14,6 +14,7 @@ pub const WORDS: usize = 100;
 const INDEX: usize = 49;
 
 // Sets the ranges that a run of numbers names, three to a range, as `ranges::set` does, and makes their index; refused ones leave all words.
+#[tactic(auto, using(crate::proofs::Laws::refused_run))]
 pub fn set(b: &mut [u32], run: &[u32]) -> u8
     requires { ValidTagRanges b.old }
     ensures answer { TagRangesTold (ranges_set (tag_ranges_in b.old) run.now) result b.new }

@@ -8,6 +8,7 @@ ghost use Rattle.tags.specs.Tags.{reserved_tag};
 const LAST_TAG: u32 = 4294967295;
 
 // Whether a tag is reserved: 0 or 4,294,967,295.
+#[tactic(auto, unfolding(crate::specs::Tags::reserved_tag))]
 pub fn is_reserved(tag: u32) -> bool
     ensures { result ≡ reserved_tag tag }
 {

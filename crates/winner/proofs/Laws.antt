@@ -32,7 +32,7 @@ use Rattle.choice.proofs.Laws.{best_none, best-wins, best-stays, best_in-cons}
 use Rattle.choice.proofs.Criteria.{best-walk}
 use Rattle.winner.specs.Winner.{better, elected, entries_at}
 use Rattle.winner.specs.Steps.{score_of, ending_at, Along, ending, Toward, FamilyFrom}
-use Rattle.winner.proofs.Orders.{better-score}
+use Rattle.winner.proofs.Orders.{better-score, better-any}
 
 -- SCORES, from an entry's standing
 over-of : (x s : ℕ) → x + s / 2 * 2 * 2 ≡ s + 131070 → x ≡ 131070 + s % 2 * 2 - s
@@ -79,6 +79,10 @@ BestAt es a d s r = (r < length es) × (get_or es r no_entry ≡ best_in (better
 module _ (es : List Entry) (s : ℕ) where
   pub best-as : {r : ℕ} (a d b f : ℕ) → better a d ≡ better b f → BestAt es a d s r → BestAt es b f s r
   best-as a d b f e q = (q.0, q.1 ∙ ap (λ (B : Entry → Entry → Bool). best_in B no_entry (entries_at es (places s))) e)
+
+  -- under algorithms other than 1 the digest plays no part
+  pub best_any : {r : ℕ} (a f : ℕ) → (a ≡ 1 → ⊥) → BestAt es a 0 s r → BestAt es a f s r
+  best_any a f n q = best-as a 0 a f (better-any a 0 f (ne_eqb a 1 n)) q
 
   pub elected-best : {r : ℕ} (a tag d : ℕ) → (a ≡ 0 → ⊥) → BestAt es a d s r → (r < length es) × (get_or es r no_entry ≡ elected a tag d (entries_at es (places s)))
   unfolding elected

@@ -229,6 +229,7 @@ pub fn preferred(t: &[u32], set: u64, algorithm: u8) -> usize
 }
 
 // Of a set of places in use, which is not empty, the one whose entry is the best under algorithm 1, 2 or 3.
+#[tactic(auto, using(crate::proofs::Laws::best_any))]
 pub fn best(t: &[u32], set: u64, algorithm: u8, digest: u32) -> usize
     requires { Valid t.now × (set ≡ 0 → ⊥) × (set < 2 ^ length (table_in t.now).entries) }
     ensures { (result < length (table_in t.now).entries) × (get_or (table_in t.now).entries result no_entry ≡ best_in (better algorithm digest) no_entry (entries_at (table_in t.now).entries (places set))) }

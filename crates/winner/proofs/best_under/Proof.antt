@@ -1,5 +1,4 @@
 -- `best_under` meets its contract: at every turn, the walk ends at the best of the set. Assumes nothing.
-use mathlib.Core.Logic.{inl, inr, ⊎_elim}
 use borrow.Author.Rules.{rules}
 use Rattle.layout.specs.Table.{no_entry}
 use Rattle.layout.specs.Words.{table_in}
@@ -38,6 +37,7 @@ score-requires-2 c κs =
     let start = turn.before.before.before.before.before in
     (start.requires.0, first-there (table_in start.args.t.now).entries start.requires.0.sound.short turn.loop-left.invariant.0.within c.loop-left-test.true c.first-next.ensures, start.requires.3)
 
+-- a search finds in the comparison that the greater one is kept
 loop-again : tie.Need-loop-left-preserved invariant-loop decreases-loop
 loop-again c =
     let scored = c.before.before in
@@ -47,7 +47,7 @@ loop-again c =
     let v = turn.loop-left.invariant in
     let n = first.loop-left-test.true in
     let step : Step turn.loop-left.left first.first-next.result c.rest-left-in-loop-left.result = record { some = n; first = first.first-next.ensures; rest = c.rest-left-in-loop-left.ensures.0; less = c.rest-left-in-loop-left.ensures.1 n } in
-    walk-on (table_in start.args.t.now).entries start.requires.0.sound.short step v.0.within (score_of start.args.algorithm 0) v scored.score-s.ensures (⊎_elim (λ w. inl (w.if-top-s.true, w.at-is, w.top-is)) (λ w. inr (w.if-top-s.false, w.at-is, w.top-is)) c.if-top-s.branch-raw)
+    walk-on (table_in start.args.t.now).entries start.requires.0.sound.short step v.0.within (score_of start.args.algorithm 0) v scored.score-s.ensures (search rules)
 
 returns : tie.Need-returns invariant-loop decreases-loop
 returns c =

@@ -2,7 +2,6 @@
 use Prim.Native.Nat.{ℕ, ◌<◌}
 use native.Mathlib.Omega.{arith}
 use mathlib.Core.Path.{◌≡◌, refl, ap, ◌∙◌, sym}
-use mathlib.Core.Logic.{inl, inr, ⊎_elim}
 use borrow.Author.Rules.{rules}
 use lib.ListN.{length, get_or}
 use Rattle.address.specs.Address.{family_of}
@@ -40,6 +39,7 @@ low-word-in-requires c κs =
       sym c.if-family_at-family.true ∙ told.family_at.ensures ∙ ap (λ (p : ℕ). family_of (get_or es p no_entry).address) (told.first.ensures ∙ sym c.first-next.ensures),
     )
 
+-- a search finds in the comparison that the greater one is kept
 loop-again : tie.Need-loop-left-preserved invariant-loop decreases-loop
 loop-again c =
     let weighed = c.before.before in
@@ -56,7 +56,7 @@ loop-again c =
     let n = turn.loop-left-test.true in
     let step : Step turn.loop-left.left looked.first-next.result c.rest-left.result = record { some = n; first = looked.first-next.ensures; rest = c.rest-left.ensures.0; less = c.rest-left.ensures.1 n } in
     let told = score-weight d _ _ (get_or es looked.first-next.result no_entry) worded.low_word_in.ensures weighed.doubled_weight-doubled.ensures.0 in
-    (walk-on es h.sound.short step v.0.0.within (score_of 1 d) v.0 told (⊎_elim (λ w. inl (w.if-top-doubled.true, w.at-is, w.top-is)) (λ w. inr (w.if-top-doubled.false, w.at-is, w.top-is)) c.if-top-doubled.branch-raw), family-on b h v.0.0.within start.args.family (λ j. (known.shared_slice_known-1.given j).fits) step v.1)
+    (walk-on es h.sound.short step v.0.0.within (score_of 1 d) v.0 told (search rules), family-on b h v.0.0.within start.args.family (λ j. (known.shared_slice_known-1.given j).fits) step v.1)
 
 returns : tie.Need-returns-else-family_at-family invariant-loop decreases-loop
 returns c =
