@@ -30,10 +30,8 @@ fn all_of_one_kind(t: &[u32]) -> bool
     let n = layout::count(t);
     let first = layout::attributes_at(t, 0);
     let mut differ = 0;
-    let mut i = 0;
-    while i < n {
-        differ = differ | (layout::attributes_at(t, i) ^ first);
-        i += 1;
+    for i in 0..n {
+        differ |= layout::attributes_at(t, i) ^ first;
     }
     layout::kind_of(differ) == 0
 }
@@ -68,7 +66,7 @@ pub fn in_use(t: &[u32], settings: &[u32]) -> InUse
     }
     let algorithm = (kind / 2) as u8;
     InUse {
-        algorithm: algorithm,
+        algorithm,
         ac_df: kind % 2 == 1,
     }
 }

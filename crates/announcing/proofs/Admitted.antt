@@ -11,7 +11,7 @@ use Rattle.community.specs.declared.Election.{Election}
 use Rattle.keyed.specs.Keyed.{rank, spliced, has}
 use Rattle.keyed.proofs.Keyed as keyed
 use Rattle.rows.specs.Rows.{found_in}
-use Rattle.rows.specs.declared.Found.TheVariants.{At, Missing}
+use Rattle.std.specs.Prelude.{Ok, Err}
 use Rattle.rows.proofs.Compared.{Words}
 use Rattle.rows.proofs.Places.{at_lt}
 use Rattle.layout.specs.Table.{Entry, entry_key, no_entry, entry_of, table_of}
@@ -20,7 +20,7 @@ use Rattle.table.specs.Steps.{Stored, admitted}
 use Rattle.table.proofs.Told.{told_at, told-new, told-full}
 
 -- WHAT IS FOUND
-pub found_by_rank : (m : ℕ) (l : List Entry) → found_in entry_key m l ≡ cond (has entry_key m l) (At (rank entry_key m l)) (Missing (rank entry_key m l))
+pub found_by_rank : (m : ℕ) (l : List Entry) → found_in entry_key m l ≡ cond (has entry_key m l) (Ok (rank entry_key m l)) (Err (rank entry_key m l))
 unfolding found_in
 found_by_rank m l = refl
 
@@ -46,7 +46,7 @@ module _ (b : List ℕ) (a : Address) (algorithm : ℕ) (ac_df dp : Bool) (prefe
   abbrev Answered : ℕ → List ℕ → Type 0
   Answered = Stored (admitted (table_in b) (entry_of (address_row a) told))
 
-  missing : has entry_key key es ≡ false → found_in entry_key key es ≡ Missing (rank entry_key key es)
+  missing : has entry_key key es ≡ false → found_in entry_key key es ≡ Err (rank entry_key key es)
   missing n = found_by_rank key es ∙ rw n
 
   -- a new address, where 64 are present and where fewer are

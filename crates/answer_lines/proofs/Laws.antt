@@ -10,7 +10,7 @@ use lib.ListN.{length, get_or, length-append, take-append-drop}
 use lib.Seq.{take_all}
 use lib.Dec.{eqb}
 use borrow.Author.Tests.{eq-eqb, ne_eqb, le-leb, lt-leb}
-use Rattle.answers.specs.declared.Answer.{Answer}
+use Rattle.answers.specs.Answers.{Answer}
 use Rattle.lists.proofs.Bools.{cond-by}
 use Rattle.octets.specs.Octets.{octets_of}
 use Rattle.octets.proofs.Laws.{octets-octets, length-octets, elements, take-elements, stored-fits}

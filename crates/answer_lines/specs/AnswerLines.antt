@@ -13,7 +13,7 @@
 use Rattle.std.specs.Prelude.{ℕ, ◌+◌, ◌≤◌, ◌≡◌, Bool, cond, ◌&&◌, ◌||◌, List, [], ◌∷◌, ◌++◌, length, get_or, leb, eqb}
 use Rattle.octets.specs.Octets.{octets_of, stored}
 use Rattle.address.specs.Address.{octets_in}
-use Rattle.answers.specs.declared.Answer.{Answer}
+use Rattle.answers.specs.Answers.{Answer}
 use Rattle.lines.specs.Lines.{decimal, dotted, hex}
 
 unfoldable pub line : ℕ → ℕ → List ℕ

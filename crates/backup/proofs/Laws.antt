@@ -4,6 +4,8 @@ use native.Mathlib.Nat.{le_of_suc-le-suc, not-suc-le-zero, two-pow-succ}
 use native.Mathlib.Omega.{arith}
 use mathlib.Core.Path.{◌≡◌, refl, ap, ◌∙◌, sym, subst}
 use mathlib.Core.Bool.{Bool, true, false, cond}
+use mathlib.Core.Logic.{inl, inr}
+use Rattle.std.proofs.Common.{Err}
 use mathlib.Core.List.{List, [], ◌∷◌, Memᴰ}
 use lib.ListN.{length, get_or, set, length-map, length-set}
 use lib.Dec.{ltb, eqb}
@@ -31,9 +33,10 @@ use Rattle.answers.specs.Steps.{ElectedAt}
 use Rattle.answers.proofs.Laws.{elected-in, elected-top, by-places, rising}
 use Rattle.election.specs.Queries.{plain, plain_algorithm, method_for, method_of, candidates_of}
 use Rattle.election.proofs.Laws.{plain-method, plain-some}
-use Rattle.backup.specs.Backup.{refused_backup, named_backup, without_forwarder, backup_by, backup_with, SecondInLine}
-use Rattle.backup.specs.Steps.{SecondAt}
-use Rattle.backup.specs.declared.Backup.{Backup}
+use Rattle.backup.specs.Backup.{Backup, refused_backup, named_backup, without_forwarder, backup_by, backup_with, SecondInLine}
+use Rattle.backup.specs.Steps.{SecondAt, Usable}
+use Rattle.refusals.specs.Numbers.{refusal_number}
+use Rattle.refusals.specs.declared.Refusal.{Refusal}
 
 module _ {A : Type 0} where
   -- a member of a list is its first, or one of the others
@@ -284,3 +287,8 @@ module _ (s : Settings) (v : SettingsRight s) (t : Table) (w : WellFormed t) (ta
             ∙ ap (λ (x : Method). backup_by x (candidates u.ac_df ready t.entries) tag) (sym (plain-method s u.algorithm tag t.esi))
             ∙ ap (λ (x : InUse). backup_by (method_for s plain x.algorithm tag t.esi) (candidates x.ac_df ready t.entries) tag) e in
             backs (p ∙ o ∙ sym (rw (h, le-ltb 64 (length ready) k, ne_eqb (length t.entries) 0 n, ne_eqb (in_use_with s t.entries).algorithm 0 a)))
+
+      -- what `usable` refuses
+      pub backs-refused : (r : Refusal) → Usable s t.entries (Err r) → Backs (refused_backup (refusal_number r))
+      backs-refused r (inl u) = subst (λ (n : ℕ). Backs (refused_backup n)) (sym u.1) (backs-12 u.0)
+      backs-refused r (inr u) = subst (λ (n : ℕ). Backs (refused_backup n)) (sym u.2) (backs-15 u.0 (in_use_with s t.entries) refl u.1)

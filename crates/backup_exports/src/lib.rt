@@ -6,10 +6,11 @@ ghost use Rattle.ready.specs.Ready.{ready_in};
 ghost use Rattle.circuit_layout.specs.Circuits.{circuits_in, ValidCircuits};
 ghost use Rattle.circuit_ready.specs.Routers.{ready_routers};
 ghost use Rattle.segment_state.specs.State.{segment_in, ValidSegment};
-ghost use Rattle.backup.specs.Backup.{backup_with};
+ghost use Rattle.backup.specs.Backup.{backup_with, backup_in};
 ghost use Rattle.backup_exports.specs.Forms.{exported_backup};
 
-use backup::Backup as Named;
+use backup::Named;
+use refusals::Refusal;
 
 // The answer that names the backup, laid out as C lays it out.
 #[repr(C)]
@@ -21,14 +22,23 @@ pub struct Backup {
 }
 
 // The answer that names the backup, field by field.
-fn exported(b: Named) -> Backup
-    ensures { result ≡ exported_backup b }
+fn exported(answer: Result<Named, Refusal>) -> Backup
+    ensures { result ≡ exported_backup (backup_in answer) }
 {
-    let words = b.address;
-    Backup {
-        number: b.number,
-        family: b.family,
-        address: words,
+    match answer {
+        Ok(named) => {
+            let address = named.address;
+            Backup {
+                number: 0,
+                family: named.family,
+                address,
+            }
+        }
+        Err(refusal) => Backup {
+            number: refusal.number(),
+            family: 0,
+            address: [0; 4],
+        },
     }
 }
 

@@ -17,7 +17,7 @@ fn show(rt: &impl Print, name: &[u8], t: &[u32], tag: u32, wanted: u64) -> io::R
     requires { ValidSegment t.now }
 {
     let none: [u32; 0] = [0; 0];
-    let backup = segment::name_backup(t, tag, &none);
+    let backup = segment::name_backup(t, tag, &none).unwrap_or_default();
     let address = backup.address;
     show_number(rt, name, (address[0] % 256) as u64, wanted)
 }
@@ -29,7 +29,7 @@ fn show_refusal(rt: &impl Print, name: &[u8], t: Table, tag: u32, wanted: u64) -
     let words = t.words;
     let none: [u32; 0] = [0; 0];
     let backup = segment::name_backup(&words, tag, &none);
-    show_number(rt, name, backup.number as u64, wanted)
+    show_number(rt, name, refusals::number(&backup) as u64, wanted)
 }
 
 // Preferences 100, 200 and 300: under Highest-Preference PE3 forwards and PE2 is the backup, which takes over. Tag 2 is set to Lowest-Preference.
@@ -38,7 +38,7 @@ fn highest(rt: &impl Print) -> io::Result<()> {
     show_number(rt, b"under 2: PE3 forwards", elected(all, 1), 3)?;
     let mut t = all.words;
     show(rt, b"under 2: the backup", &t, 1, 2)?;
-    segment::set_ranges(&mut t, &[2, 2, 3]);
+    let _ = segment::set_ranges(&mut t, &[2, 2, 3]);
     show(rt, b"tag 2 Lowest: the backup", &t, 2, 2)?;
     show_number(rt, b"PE3 withdrawn", elected(without(all, 3), 1), 2)
 }
@@ -58,9 +58,9 @@ fn weighed(rt: &impl Print) -> io::Result<()> {
     let mut route = route_of(1);
     route[21] = 138;
     let community = [6, 6, WEIGHT, 0, 0, 0, 0, 0];
-    segment::announce(&mut t, &route, &community);
+    let _ = segment::announce(&mut t, &route, &community);
     let none: [u32; 0] = [0; 0];
-    let backup = segment::name_backup(&t, 7, &none);
+    let backup = segment::name_backup(&t, 7, &none).unwrap_or_default();
     let address = backup.address;
     show_number(
         rt,

@@ -2,15 +2,18 @@
 --   highest          == the highest preference, and the longest step either way
 --   clamped z        == the number z, stopped at 0 and at the highest preference
 --   is_step s         == whether s is a step: from -65,535 to 65,535
+--   Sum              == what the call answers: a number, and a preference
 --   sum n p          == the answer with the number n and the preference p
+--   sum_of a         == the answer that a says: 0 and the sum, or the number of a refusal and 0
 --   add_step p s      == the whole answer for the preference p and the step s
 --   preference_after p s == the preference in it
 --   GivesBack p      == the claim of a step from p and the same step the other way
 --   KeepsOrder p s   == the claim of larger preferences and larger steps
-use Rattle.std.specs.Prelude.{ℕ, ◌+◌, ◌≤◌, ◌≡◌, ◌↔◌, Bool, true, cond, ◌&&◌, leb, ℤ, pos, negsuc, neg_ℤ, ◌+ℤ◌, ◌≤ℤ◌}
+use Rattle.std.specs.Prelude.{ℕ, ◌+◌, ◌≤◌, ◌≡◌, ◌↔◌, Bool, true, cond, ◌&&◌, leb, ℤ, pos, negsuc, neg_ℤ, ◌+ℤ◌, ◌≤ℤ◌, Result, Ok, Err}
 use Rattle.std.specs.Int.Signed.{le_z}
 use Rattle.refusals.specs.Refusals.{step_out_of_range}
-use Rattle.bandwidth.specs.declared.Sum.{Sum}
+use Rattle.refusals.specs.Numbers.{refusal_number}
+use Rattle.refusals.specs.declared.Refusal.{Refusal}
 
 abbrev pub highest : ℕ
 highest = 65535
@@ -22,8 +25,16 @@ clamped (pos n) = cond {A = ℕ} (leb n highest) n highest
 unfoldable pub is_step : ℤ → Bool
 is_step s = le_z (neg_ℤ (pos highest)) s && le_z s (pos highest)
 
+pub record Sum : Type 0 where
+  pub number : ℕ
+  pub preference : ℕ
+
 abbrev pub sum : ℕ → ℕ → Sum
 sum n p = record { number = n; preference = p }
+
+abbrev pub sum_of : Result ℕ Refusal → Sum
+sum_of (Ok p) = sum 0 p
+sum_of (Err r) = sum (refusal_number r) 0
 
 -- the sum of the preference and the step as integers, stopped at both ends; 19 for what is no step
 unfoldable pub add_step : ℕ → ℤ → Sum

@@ -3,9 +3,9 @@
 #![tactic(auto)]
 
 ghost use Rattle.std.specs.Prelude.{◌≡◌};
-ghost use Rattle.bandwidth.specs.Bandwidth.{add_step, GivesBack, KeepsOrder};
+ghost use Rattle.bandwidth.specs.Bandwidth.{add_step, sum_of, GivesBack, KeepsOrder};
 
-use refusals::STEP_OUT_OF_RANGE;
+use refusals::Refusal;
 
 pub const MAX_PREFERENCE: u16 = 65_535;
 
@@ -13,46 +13,23 @@ pub const MIN_STEP: i32 = -65_535;
 
 pub const MAX_STEP: i32 = 65_535;
 
-// The answer: 0 and the sum, or a refusal number and 0.
-#[derive(Clone, Copy)]
-pub struct Sum {
-    pub number: u8,
-    pub preference: u16,
-}
-
 // Adds a step upon a preference: 19 for a step outside -65,535 to 65,535, else the sum, stopped at 0 and at 65,535. A step and the same step the
 // other way give back the preference exactly if the first did not stop short; a larger preference or a larger step never gives a smaller sum.
-pub fn add_step(preference: u16, step: i32) -> Sum
-    ensures answer { result ≡ add_step preference step }
+#[tactic(auto, using(crate::proofs::Laws::step_laws))]
+pub fn add_step(preference: u16, step: i32) -> Result<u16, Refusal>
+    ensures answer { sum_of result ≡ add_step preference step }
     ensures gives_back { GivesBack preference }
     ensures keeps_order { KeepsOrder preference step }
 {
-    let refused = Sum {
-        number: STEP_OUT_OF_RANGE,
-        preference: 0,
-    };
-    if step < MIN_STEP {
-        return refused;
-    }
-    if MAX_STEP < step {
-        return refused;
+    if step < MIN_STEP || MAX_STEP < step {
+        return Err(Refusal::StepOutOfRange);
     }
     let sum = preference as i32 + step;
     if sum < 0 {
-        return Sum {
-            number: 0,
-            preference: 0,
-        };
+        return Ok(0);
     }
     if (MAX_PREFERENCE as i32) < sum {
-        return Sum {
-            number: 0,
-            preference: MAX_PREFERENCE,
-        };
+        return Ok(MAX_PREFERENCE);
     }
-    let between = sum as u16;
-    Sum {
-        number: 0,
-        preference: between,
-    }
+    Ok(sum as u16)
 }

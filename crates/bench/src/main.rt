@@ -10,12 +10,11 @@ use blocks::Next;
 use std::io::Read;
 use turns::Phase;
 
-// Where the program stands: the phase of the run, how many octets of the block are filled, and whether there is more to do.
+// Where the program stands, while there is more to do: the phase of the run, and how many octets of the block are filled.
 #[derive(Clone, Copy)]
 struct Work {
     phase: Phase,
     filled: usize,
-    going: bool,
 }
 
 // Writes answer lines, and answers whether all of them were written.
@@ -47,7 +46,7 @@ fn read_some(rt: &impl Eprint, input: &mut impl Read, room: &mut [u8]) -> usize
 }
 
 // Reads more octets behind those that fill the block. There is room for one, so a read of none is the end of the input; a read that fails counts as the end
-// too.
+// too. After it there is nothing more to do.
 fn read_more(
     rt: &(impl Print + Eprint),
     input: &mut impl Read,
@@ -55,24 +54,18 @@ fn read_more(
     block: &mut [u8],
     filled: usize,
     out: &mut [u8],
-) -> Work
+) -> Option<Work>
     requires { filled < length block.old }
 {
     let more = read_some(rt, input, &mut block[filled..]);
     if more == 0 {
         end(rt, phase, &block[..filled], out);
-        return Work {
-            phase,
-            filled,
-            going: false,
-        };
+        return None;
     }
-    let sum = filled + more;
-    Work {
+    Some(Work {
         phase,
-        filled: sum,
-        going: true,
-    }
+        filled: filled + more,
+    })
 }
 
 // One turn: the block is taken, what it makes is written at once, and more is read where that is next. The block has room for the longest record.
@@ -84,7 +77,7 @@ fn turn(
     block: &mut [u8],
     filled: usize,
     out: &mut [u8],
-) -> Work
+) -> Option<Work>
     requires { (259 ≤ length block.old) × Valid t.old }
     ensures { Valid t.new }
 {
@@ -94,23 +87,14 @@ fn turn(
     let wrote = taken.wrote;
     let next = taken.next;
     if !write_lines(rt, &out[..wrote]) {
-        return Work {
-            phase: last,
-            filled: left,
-            going: false,
-        };
+        return None;
     }
     match next {
-        Next::Done => Work {
+        Next::Done => None,
+        Next::Again => Some(Work {
             phase: last,
             filled: left,
-            going: false,
-        },
-        Next::Again => Work {
-            phase: last,
-            filled: left,
-            going: true,
-        },
+        }),
         Next::Read => read_more(rt, input, last, block, left, out),
     }
 }
@@ -126,15 +110,13 @@ fn run(rt: &(impl Input + Print + Eprint), block: &mut [u8], out: &mut [u8])
     let mut work = Work {
         phase: first,
         filled: 0,
-        going: true,
     };
     for _ in 0..u64::MAX {
-        if !work.going {
+        let Work { phase, filled } = work;
+        let Some(more) = turn(rt, &mut input, &mut t, phase, block, filled, out) else {
             return;
-        }
-        let phase = work.phase;
-        let filled = work.filled;
-        work = turn(rt, &mut input, &mut t, phase, block, filled, out);
+        };
+        work = more;
     }
 }
 

@@ -128,31 +128,19 @@ fn process(t: &mut [u32], phase: Phase, input: &[u8], out: &mut [u8]) -> Progres
     }
 }
 
-// The smaller of two numbers.
-fn least(a: usize, b: usize) -> usize
-    ensures { result ≡ min a b }
-{
-    if a < b {
-        return a;
-    }
-    b
-}
-
 // Moves the octets of a block that were not used to its front: those from position `used` up to position `filled`, where a position past the end counts
 // as the end. The other octets stay as they are. Answers how many octets were moved.
 fn keep(block: &mut [u8], used: usize, filled: usize) -> usize
     ensures count { result ≡ length (kept block.old used filled) }
     ensures moved { block.new ≡ stored block.old 0 (kept block.old used filled) }
 {
-    let end = least(filled, block.len());
+    let end = filled.min(block.len());
     if end <= used {
         return 0;
     }
     let n = end - used;
-    let mut i = 0;
-    while i < n {
+    for i in 0..n {
         block[i] = block[used + i];
-        i += 1;
     }
     n
 }
@@ -185,7 +173,7 @@ pub fn take_block(
     ensures run { BlockTaken (state_in phase t.old) block.old filled out.old result (state_in result.phase t.new) block.new out.new }
     ensures kept { Valid t.new }
 {
-    let n = least(filled, block.len());
+    let n = filled.min(block.len());
     let p = process(t, phase, &block[..n], out);
     let last = p.phase;
     let used = p.used;

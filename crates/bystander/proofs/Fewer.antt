@@ -16,8 +16,7 @@ use Rattle.tags.specs.Tags.{reserved_tag}
 use Rattle.agreement.specs.Agreement.{carries, all_carry, fallback, usable, in_use_with}
 use Rattle.agreement.specs.declared.InUse.{InUse}
 use Rattle.ready.specs.Ready.{on_list, candidates, candidate_set}
-use Rattle.answers.specs.Answers.{refused_answer, Method, answer_by, Forwarder}
-use Rattle.answers.specs.declared.Answer.{Answer}
+use Rattle.answers.specs.Answers.{Answer, refused_answer, Method, answer_by, Forwarder}
 use Rattle.answers.proofs.Laws.{none-by, numbers-by, forwarder-by}
 use Rattle.election.specs.Queries.{Query, right_lengths, number_for, agreed_on, method_for, method_of, candidates_of, elect_with}
 use Rattle.election.proofs.Laws.{passes, plain-some}

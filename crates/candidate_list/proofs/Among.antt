@@ -14,8 +14,7 @@ use Rattle.places.proofs.Flags.{set_of-lt, picked-places, picked_all}
 use Rattle.hrw.specs.Weight.{digest_of}
 use Rattle.winner.specs.Winner.{entries_at}
 use Rattle.answers.specs.Answers.{by_tag}
-use Rattle.backup.specs.declared.Backup.{Backup}
-use Rattle.backup.specs.Backup.{refused_backup, backup_by}
+use Rattle.backup.specs.Backup.{Backup, refused_backup, backup_by}
 use Rattle.candidate_list.specs.Candidates.{backup_under}
 use Rattle.candidate_list.proofs.Orders.{backup-digest}
 
@@ -47,3 +46,6 @@ module _ (a : ℕ) (es : List Entry) (w : Bool) where
   pub among-15 : w ≡ false → (a ≡ 2 → ⊥) → (a ≡ 3 → ⊥) → refused_backup 15 ≡ backup_under w a es
   unfolding backup_under
   among-15 e m n = rw (e, ne_eqb a 2 m, ne_eqb a 3 n)
+
+-- what each return of `backup_of` is
+pub ruleset refused_or_not = (among-22, among-15, all_under)

@@ -14,8 +14,7 @@ use Rattle.lists.proofs.Lists.{perm-length}
 use Rattle.keyed.specs.Keyed.{has, insert}
 use Rattle.keyed.proofs.Order.{perm-insert, length-insert, has-perm, distinct-perm}
 use Rattle.layout.specs.Table.{Entry, entry_key}
-use Rattle.backup.specs.declared.Backup.{Backup}
-use Rattle.backup.specs.Backup.{refused_backup}
+use Rattle.backup.specs.Backup.{Backup, refused_backup}
 use Rattle.candidate_list.specs.declared.Candidate.{Candidate}
 use Rattle.candidate_list.specs.declared.Loaded.{Loaded}
 use Rattle.candidate_list.specs.Candidates.{candidate_entry, has_address, twice, records_wrong, list_wrong, backup_under}

@@ -24,8 +24,7 @@ use Rattle.winner.specs.Winner.{elected}
 use Rattle.winner.proofs.Orders.{better-any}
 use Rattle.answers.specs.Answers.{Method}
 use Rattle.answers.proofs.Laws.{elected-in, elected-top, elected-only}
-use Rattle.backup.specs.declared.Backup.{Backup}
-use Rattle.backup.specs.Backup.{refused_backup, named_backup, without_forwarder, backup_by, SecondInLine}
+use Rattle.backup.specs.Backup.{Backup, refused_backup, named_backup, without_forwarder, backup_by, SecondInLine}
 use Rattle.backup.proofs.Laws.{left_other, rest-there, second-by}
 use Rattle.candidate_list.specs.declared.Candidate.{Candidate}
 use Rattle.candidate_list.specs.Candidates.{candidate_entry, has_address, twice, records_wrong, list_wrong, by_algorithm, backup_under, backup_in_list}

@@ -14,7 +14,7 @@ use Rattle.keyed.specs.Keyed.{spliced, has, insert}
 use Rattle.keyed.proofs.Keyed.{rising-insert, every-insert}
 use Rattle.keyed.proofs.Order.{length-insert}
 use Rattle.rows.specs.Rows.{found_in}
-use Rattle.rows.specs.declared.Found.TheVariants.{At, Missing}
+use Rattle.std.specs.Prelude.{Ok, Err}
 use Rattle.rows.proofs.Places.{found_at, found-missing, insert-missing}
 use Rattle.address.specs.declared.Address.{Address}
 use Rattle.address.specs.declared.Family.TheVariants.{V4, V6}
@@ -29,41 +29,40 @@ use Rattle.table.specs.Table.{fresh_table, Told}
 use Rattle.table.proofs.Told.{packed-entry}
 use Rattle.candidate_list.specs.declared.Candidate.{Candidate}
 use Rattle.candidate_list.specs.declared.Loaded.{Loaded}
-use Rattle.candidate_list.specs.declared.Originator.{Originator}
-use Rattle.candidate_list.specs.declared.Originator.TheVariants.{Known, Nobody}
+use Rattle.std.proofs.Common.{Option, Some, None}
 use Rattle.candidate_list.specs.Candidates.{candidate_row, candidate_election, candidate_entry, has_address}
 use Rattle.candidate_list.specs.Steps.{unless_zero, OriginatorOf, Loadable, TakenIn, ValidLoaded, entries_of, NothingLoaded, Pushed}
 
 -- AN ADDRESS, unless it is zero
 module _ (a : Address) where
-  pub zero-nobody : is_zero (address_row a) ≡ true → Nobody ≡ unless_zero a
+  pub zero-nobody : is_zero (address_row a) ≡ true → None ≡ unless_zero a
   unfolding unless_zero
   zero-nobody e = rw e
 
-  pub known : is_zero (address_row a) ≡ false → Known a ≡ unless_zero a
+  pub known : is_zero (address_row a) ≡ false → Some a ≡ unless_zero a
   unfolding unless_zero
   known e = rw e
 
 -- THE ADDRESS OF A RECORD
 module _ (c : Candidate) where
   -- whose family is one of the two
-  family-known : (a : Address) (r : Originator) → (eqb c.family 4 || eqb c.family 6) ≡ true → address_row a ≡ candidate_row c → r ≡ unless_zero a → OriginatorOf c r
+  family-known : (a : Address) (r : Option Address) → (eqb c.family 4 || eqb c.family 6) ≡ true → address_row a ≡ candidate_row c → r ≡ unless_zero a → OriginatorOf c r
   unfolding unless_zero has_address
   family-known a r f e q = subst (OriginatorOf c) (sym q) (go (is_zero (address_row a)) refl)
     where
-      go : (b : Bool) → is_zero (address_row a) ≡ b → OriginatorOf c (cond b Nobody (Known a))
+      go : (b : Bool) → is_zero (address_row a) ≡ b → OriginatorOf c (cond b None (Some a))
       go true z = rw (f, ← e, z) refl
       go false z = (rw (f, ← e, z) refl, e)
 
-  pub is-four : (r : Originator) → c.family ≡ 4 → r ≡ unless_zero (record { family = V4; w0 = c.w0; w1 = c.w1; w2 = c.w2; w3 = c.w3 }) → OriginatorOf c r
+  pub is-four : (r : Option Address) → c.family ≡ 4 → r ≡ unless_zero (record { family = V4; w0 = c.w0; w1 = c.w1; w2 = c.w2; w3 = c.w3 }) → OriginatorOf c r
   unfolding address_row candidate_row
   is-four r e q = family-known _ r (rw e refl) (rw e refl) q
 
-  pub is-six : (r : Originator) → c.family ≡ 6 → r ≡ unless_zero (record { family = V6; w0 = c.w0; w1 = c.w1; w2 = c.w2; w3 = c.w3 }) → OriginatorOf c r
+  pub is-six : (r : Option Address) → c.family ≡ 6 → r ≡ unless_zero (record { family = V6; w0 = c.w0; w1 = c.w1; w2 = c.w2; w3 = c.w3 }) → OriginatorOf c r
   unfolding address_row candidate_row
   is-six r e q = family-known _ r (rw e refl) (rw e refl) q
 
-  pub is-neither : (c.family ≡ 4 → ⊥) → (c.family ≡ 6 → ⊥) → OriginatorOf c Nobody
+  pub is-neither : (c.family ≡ 4 → ⊥) → (c.family ≡ 6 → ⊥) → OriginatorOf c None
   unfolding has_address
   is-neither m n = rw (ne_eqb c.family 4 m, ne_eqb c.family 6 n)
 
@@ -88,13 +87,13 @@ module _ (b : List ℕ) (h : Loadable b) (c : Candidate) where
   pub taken_none : has_address c ≡ false → Loadable b × TakenIn es c true es
   taken_none n = (h, (rw n, refl))
 
-  module _ (a : Address) (o : OriginatorOf c (Known a)) where
-    pub taken-there : (i : ℕ) → found_in entry_key (address_key (address_row a)) es ≡ At i → Loadable b × TakenIn es c true es
+  module _ (a : Address) (o : OriginatorOf c (Some a)) where
+    pub taken-there : (i : ℕ) → found_in entry_key (address_key (address_row a)) es ≡ Ok i → Loadable b × TakenIn es c true es
     taken-there i f =
         let there : has entry_key (entry_key e) es ≡ true = rw (← o.1) (found_at entry_key (address_key (address_row a)) es i f).0 in
         (h, (rw there (sym (or-true (not (has_address c)))), refl))
 
-    module _ (w i : ℕ) (p : Packed (candidate_election c) w) (f : found_in entry_key (address_key (address_row a)) es ≡ Missing i) (room : length es < 64) where
+    module _ (w i : ℕ) (p : Packed (candidate_election c) w) (f : found_in entry_key (address_key (address_row a)) es ≡ Err i) (room : length es < 64) where
       new : has entry_key (entry_key e) es ≡ false
       new = rw (← o.1) (found-missing entry_key (address_key (address_row a)) es i f).0
 

@@ -18,8 +18,7 @@ use Rattle.community.specs.declared.Election.{Election}
 use Rattle.layout.specs.Table.{Entry, entry_key, entry_of}
 use Rattle.answers.specs.Answers.{Method}
 use Rattle.refusals.specs.Refusals.{candidates_wrong, algorithm_not_usable}
-use Rattle.backup.specs.declared.Backup.{Backup}
-use Rattle.backup.specs.Backup.{refused_backup, backup_by}
+use Rattle.backup.specs.Backup.{Backup, refused_backup, backup_by}
 use Rattle.candidate_list.specs.declared.Candidate.{Candidate}
 
 -- RECORDS

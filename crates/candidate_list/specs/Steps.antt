@@ -8,7 +8,7 @@
 --   entries_of t           == the entries that were loaded
 --   NothingLoaded t       == t is what no record loads
 --   Pushed t c r          == r is t with the record c
-use Rattle.std.specs.Prelude.{ℕ, ◌≡◌, Bool, true, false, cond, not, ◌||◌, List, []}
+use Rattle.std.specs.Prelude.{ℕ, ◌≡◌, Bool, true, false, cond, not, ◌||◌, List, [], Option, Some, None}
 use Rattle.keyed.specs.Keyed.{has, insert}
 use Rattle.address.specs.declared.Address.{Address}
 use Rattle.address.specs.Address.{address_row, is_zero}
@@ -17,16 +17,14 @@ use Rattle.layout.specs.Table.{Entry, entry_key}
 use Rattle.layout.specs.Words.{table_in, Valid}
 use Rattle.candidate_list.specs.declared.Candidate.{Candidate}
 use Rattle.candidate_list.specs.declared.Loaded.{Loaded}
-use Rattle.candidate_list.specs.declared.Originator.{Originator}
-use Rattle.candidate_list.specs.declared.Originator.TheVariants.{Known, Nobody}
 use Rattle.candidate_list.specs.Candidates.{candidate_row, candidate_entry, has_address}
 
-unfoldable pub unless_zero : Address → Originator
-unless_zero a = cond (is_zero (address_row a)) Nobody (Known a)
+unfoldable pub unless_zero : Address → Option Address
+unless_zero a = cond (is_zero (address_row a)) None (Some a)
 
-abbrev pub OriginatorOf : Candidate → Originator → Type 0
-OriginatorOf c (Known a) = (has_address c ≡ true) × (address_row a ≡ candidate_row c)
-OriginatorOf c Nobody = has_address c ≡ false
+abbrev pub OriginatorOf : Candidate → Option Address → Type 0
+OriginatorOf c (Some a) = (has_address c ≡ true) × (address_row a ≡ candidate_row c)
+OriginatorOf c None = has_address c ≡ false
 
 abbrev pub Loadable : List ℕ → Type 0
 Loadable b = Valid b × (reserved (table_in b).esi ≡ false)

@@ -5,17 +5,15 @@
 ghost use Rattle.std.specs.Prelude.{◌≡◌, ◌<◌, length};
 ghost use mathlib.Core.List.{List, map, Permᴰ};
 ghost use Rattle.layout.specs.Words.{table_in};
-ghost use Rattle.refusals.specs.Refusals.{candidates_wrong};
-ghost use Rattle.backup.specs.Backup.{refused_backup, SecondInLine};
+ghost use Rattle.backup.specs.Backup.{backup_in, SecondInLine};
 ghost use Rattle.candidate_list.specs.Candidates.{candidate_entry, by_algorithm, backup_under, backup_in_list};
 ghost use Rattle.candidate_list.specs.Steps.{unless_zero, OriginatorOf, Loadable, TakenIn, ValidLoaded, entries_of, NothingLoaded, Pushed};
 
 use address::{Address, Family};
-use backup::Backup;
+use backup::Named;
 use community::Election;
 use layout::WORDS;
-use refusals::{ALGORITHM_NOT_USABLE, CANDIDATES_WRONG};
-use rows::Found;
+use refusals::Refusal;
 
 // The most records that a list may have.
 const MAX_CANDIDATES: usize = 64;
@@ -46,49 +44,34 @@ struct Loaded {
     words: [u32; WORDS],
 }
 
-// The address of a record, unless it has none.
-#[derive(Clone, Copy)]
-enum Originator {
-    Known(Address),
-    Nobody,
-}
-
 // An address, unless it is zero.
-fn unless_zero(a: Address) -> Originator
+#[tactic(auto, unfolding(crate::specs::Steps::unless_zero))]
+fn unless_zero(a: Address) -> Option<Address>
     ensures { result ≡ unless_zero a }
 {
     if address::is_zero(a) {
-        return Originator::Nobody;
+        return None;
     }
-    Originator::Known(a)
+    Some(a)
 }
 
 // The address of a record. A family that is neither 4 nor 6 has none, and address zero is none.
 #[tactic(auto, using(crate::proofs::Taken::by_family))]
-fn address_of(c: Candidate) -> Originator
+fn address_of(c: Candidate) -> Option<Address>
     ensures { OriginatorOf c result }
 {
-    if c.family == 4 {
-        let v4 = Address {
-            family: Family::V4,
-            w0: c.w0,
-            w1: c.w1,
-            w2: c.w2,
-            w3: c.w3,
-        };
-        return unless_zero(v4);
-    }
-    if c.family == 6 {
-        let v6 = Address {
-            family: Family::V6,
-            w0: c.w0,
-            w1: c.w1,
-            w2: c.w2,
-            w3: c.w3,
-        };
-        return unless_zero(v6);
-    }
-    Originator::Nobody
+    let family = match c.family {
+        4 => Family::V4,
+        6 => Family::V6,
+        _ => return None,
+    };
+    unless_zero(Address {
+        family,
+        w0: c.w0,
+        w1: c.w1,
+        w2: c.w2,
+        w3: c.w3,
+    })
 }
 
 // Puts a record among the entries of a table. Whether it is refused, as it has no address or one that is there: then nothing changes.
@@ -96,12 +79,11 @@ fn take_in(t: &mut [u32], c: Candidate) -> bool
     requires { Loadable t.old × (length (table_in t.old).entries < 64) }
     ensures { Loadable t.new × TakenIn (table_in t.old).entries c result (table_in t.new).entries }
 {
-    let named = address_of(c);
-    let Originator::Known(address) = named else {
+    let Some(address) = address_of(c) else {
         return true;
     };
     let found = entries::find(t, address);
-    let Found::Missing(at) = found else {
+    let Err(at) = found else {
         return true;
     };
     let election = Election {
@@ -145,47 +127,37 @@ fn push(t: Loaded, c: Candidate) -> Loaded
 }
 
 // The backup among what was loaded: 22 where a record was refused, 15 for an algorithm that is neither 2 nor 3, 12 where fewer than two were loaded.
-fn backup_of(t: Loaded, algorithm: u8) -> Backup
+#[tactic(auto, using(crate::proofs::Among::refused_or_not))]
+fn backup_of(t: Loaded, algorithm: u8) -> Result<Named, Refusal>
     requires { ValidLoaded t }
-    ensures { result ≡ backup_under t.wrong algorithm (entries_of t) }
+    ensures { backup_in result ≡ backup_under t.wrong algorithm (entries_of t) }
 {
     if t.wrong {
-        return backup::refusal(CANDIDATES_WRONG);
+        return Err(Refusal::CandidatesWrong);
     }
-    if algorithm < 2 {
-        return backup::refusal(ALGORITHM_NOT_USABLE);
-    }
-    if 3 < algorithm {
-        return backup::refusal(ALGORITHM_NOT_USABLE);
+    if algorithm < 2 || 3 < algorithm {
+        return Err(Refusal::AlgorithmNotUsable);
     }
     let words = t.words;
     let set = places::below(layout::count(&words));
     backup::backup_among(&words, algorithm, set, 0)
 }
 
-// The answer for a list that is too long.
-fn too_long() -> Backup
-    ensures { result ≡ refused_backup candidates_wrong }
-{
-    backup::refusal(CANDIDATES_WRONG)
-}
-
 // Names the backup among a list of candidates, in any order, all of them eligible, under algorithm 2 or 3: 22 for a list over 64, with an address twice, with address zero or with a family that is
 // neither 4 nor 6; then 15 for another algorithm; then 12 for fewer than two records. An address that is named is that of a candidate other than the forwarder, and no other candidate but the
 // forwarder is better. The order of the list does not matter. `candidate_list_c` exports it.
-pub fn name_backup_in(list: &[Candidate], algorithm: u8) -> Backup
-    ensures answer { result ≡ backup_in_list list.now algorithm }
-    ensures second { result.number ≡ 0 → SecondInLine (by_algorithm algorithm) (map candidate_entry list.now) 0 result }
-    ensures any_order { (other : List Candidate) → Permᴰ other list.now → result ≡ backup_in_list other algorithm }
+#[tactic(auto, using(crate::proofs::Loads::turned))]
+pub fn name_backup_in(list: &[Candidate], algorithm: u8) -> Result<Named, Refusal>
+    ensures answer { backup_in result ≡ backup_in_list list.now algorithm }
+    ensures second { (backup_in result).number ≡ 0 → SecondInLine (by_algorithm algorithm) (map candidate_entry list.now) 0 (backup_in result) }
+    ensures any_order { (other : List Candidate) → Permᴰ other list.now → backup_in result ≡ backup_in_list other algorithm }
 {
     if MAX_CANDIDATES < list.len() {
-        return too_long();
+        return Err(Refusal::CandidatesWrong);
     }
     let mut t = nothing();
-    let mut i = 0;
-    while i < list.len() {
-        t = push(t, list[i]);
-        i += 1;
+    for c in list {
+        t = push(t, *c);
     }
     backup_of(t, algorithm)
 }

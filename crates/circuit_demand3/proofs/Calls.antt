@@ -24,7 +24,7 @@ use Rattle.circuit_layout.specs.declared.Scope.{Scope}
 use Rattle.circuit_layout.specs.Circuits.{ad_row, CircuitsRight, circuits_in}
 use Rattle.circuits.specs.Changes.{ad_announce_number, ad_withdraw_number, ad_announced, ad_withdrawn, AdTold}
 use Rattle.circuits.proofs.Calls.{announced-kept, withdrawn-kept, passed-zero, passed-tag, passed-room}
-use Rattle.answers.specs.declared.Answer.{Answer}
+use Rattle.answers.specs.Answers.{Answer}
 use Rattle.circuit_election.specs.Over.{elect_over}
 use Rattle.circuit_demand3.specs.Calls.{CircuitCall, announce, withdraw, elect, change_reply, elect_reply, circuit_number, circuit_reply, circuits_left, CircuitChanges}
 use Rattle.circuit_demand3.specs.Journal.{AdAnnouncement, route_from, route_key, again_circuit, circuit_call_number, circuit_effect, number_held}

@@ -17,7 +17,7 @@ use Rattle.keyed.proofs.Replay as replay
 use Rattle.rows.specs.Rows.{row_key}
 use Rattle.segment_state.specs.State.{Segment}
 use Rattle.circuit_layout.specs.Circuits.{CircuitsRight, circuit_words}
-use Rattle.answers.specs.declared.Answer.{Answer}
+use Rattle.answers.specs.Answers.{Answer}
 use Rattle.circuit_election.specs.Over.{elect_over}
 use Rattle.circuit_demand3.specs.Calls.{CircuitCall, announce, withdraw, elect, CircuitReply, change_reply, elect_reply, circuit_number, circuit_reply, circuits_left}
 use Rattle.circuit_demand3.specs.Journal.{AdAnnouncement, route_from, route_key, again_circuit, routes_from, circuit_call_number, circuit_effect, number_held, step_held, circuit_journal_reply}

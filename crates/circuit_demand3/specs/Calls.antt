@@ -13,7 +13,7 @@ use Rattle.address.specs.Address.{address_row}
 use Rattle.segment_state.specs.State.{Segment}
 use Rattle.circuit_layout.specs.declared.Scope.{Scope}
 use Rattle.circuits.specs.Changes.{ad_announced, ad_withdrawn}
-use Rattle.answers.specs.declared.Answer.{Answer}
+use Rattle.answers.specs.Answers.{Answer}
 use Rattle.circuit_election.specs.Over.{elect_over}
 
 pub data CircuitCall : Type 0 where

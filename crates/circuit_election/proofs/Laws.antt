@@ -12,8 +12,7 @@ use Rattle.agreement.specs.Agreement.{in_use_with}
 use Rattle.ready.specs.Ready.{candidates, candidate_set}
 use Rattle.circuit_ready.specs.Routers.{ready_routers}
 use Rattle.circuit_ready.proofs.Laws.{length-routers}
-use Rattle.answers.specs.Answers.{refused_answer}
-use Rattle.answers.specs.declared.Answer.{Answer}
+use Rattle.answers.specs.Answers.{Answer, refused_answer}
 use Rattle.election.specs.Queries.{plain, right_lengths}
 use Rattle.election.specs.Steps.{Elected}
 use Rattle.election.proofs.Laws.{elects-12, never-long}

@@ -4,7 +4,7 @@ use Rattle.std.specs.Prelude.{ℕ, List}
 use Rattle.layout.specs.Table.{Entry}
 use Rattle.settings.specs.Settings.{Settings}
 use Rattle.circuit_ready.specs.Routers.{ready_routers}
-use Rattle.answers.specs.declared.Answer.{Answer}
+use Rattle.answers.specs.Answers.{Answer}
 use Rattle.election.specs.Queries.{plain, elect_with}
 
 unfoldable pub elect_over : Settings → List ℕ → List Entry → List (List ℕ) → ℕ → Answer

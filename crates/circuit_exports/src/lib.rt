@@ -52,7 +52,7 @@ pub extern "C" fn circuits_announce(
 {
     let scope = scope_of(per_instance, tag);
     let address = export_forms::handed_in(v6, w0, w1, w2, w3);
-    segment::announce_circuit(c, scope, address)
+    refusals::number(&segment::announce_circuit(c, scope, address))
 }
 
 // `segment::withdraw_circuit`.
@@ -73,7 +73,7 @@ pub extern "C" fn circuits_withdraw(
 {
     let scope = scope_of(per_instance, tag);
     let address = export_forms::handed_in(v6, w0, w1, w2, w3);
-    segment::withdraw_circuit(c, scope, address)
+    refusals::number(&segment::withdraw_circuit(c, scope, address))
 }
 
 // `segment::elect_by_circuits`.

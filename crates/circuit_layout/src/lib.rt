@@ -10,7 +10,6 @@ ghost use Rattle.address.specs.Address.{address_row};
 ghost use Rattle.circuit_layout.specs.Circuits.{ad_row, circuit_words, circuits_in, ValidCircuits};
 
 use address::Address;
-use rows::Found;
 
 // What an Ethernet A-D route is announced for: a whole segment (per ES), or one tag on it (per EVI).
 #[derive(Clone, Copy)]
@@ -62,8 +61,8 @@ pub fn count(t: &[u32]) -> usize
     t[COUNT] as usize
 }
 
-// Where a route stands, or would stand. The first look is at the place `first`, or in the middle where `first` is no place in use.
-pub fn look(t: &[u32], first: usize, row: &[u32]) -> Found
+// Where a route stands: `Ok` with its place, or `Err` with the place at which it would stand. The first look is at the place `first`, or in the middle where `first` is no place in use.
+pub fn look(t: &[u32], first: usize, row: &[u32]) -> Result<usize, usize>
     requires { ValidCircuits t.now × (length row.now ≡ 7) }
     ensures { result ≡ found_in row_key (row_key row.now) (circuits_in t.now) }
 {

@@ -17,8 +17,9 @@ use Rattle.keyed.proofs.Keyed.{rank-above, present-of}
 use Rattle.address.specs.Address.{IsAddress, ipv4, ipv6}
 use Rattle.address.proofs.Laws.{length-address}
 use Rattle.rows.specs.Rows.{row_key, key_order}
-use Rattle.rows.specs.declared.Order.TheVariants.{Less, Equal, Greater}
-use Rattle.rows.proofs.Compared.{is-less, is_same, is-more, Words, words-part, key-lt, key-append}
+use Rattle.std.specs.declared.cmp.Ordering.{Ordering}
+use Rattle.std.specs.Ordering.{is_eq}
+use Rattle.rows.proofs.Compared.{order-less, order_same, order-more, Words, words-part, key-lt, key-append}
 use Rattle.rows.proofs.Places.{found_at, look-here}
 use Rattle.circuit_layout.specs.Circuits.{per_segment, per_instance, circuits_in, ValidCircuits}
 use Rattle.circuit_layout.proofs.Words.{length-valid, short, route-row}
@@ -35,14 +36,13 @@ pub first_holds : (a b : Bool) {p q : Bool} → p ≡ a → p ≡ true → q ≡
 first_holds a b e h f = f ∙ rw (sym e ∙ h)
 
 -- ONE COMPARISON says whether two keys are equal
-pub told-less : (m n : ℕ) → key_order m n ≡ Less → false ≡ eqb m n
-told-less m n h = sym (ne_eqb m n (λ e. omega (arith, is-less m n h)))
-
-pub told_same : (m n : ℕ) → key_order m n ≡ Equal → true ≡ eqb m n
-told_same m n h = sym (eq-eqb m n (is_same m n h))
-
-pub told_more : (m n : ℕ) → key_order m n ≡ Greater → false ≡ eqb m n
-told_more m n h = sym (ne_eqb m n (λ e. omega (arith, is-more m n h)))
+pub told_same : (m n : ℕ) {o : Ordering} → o ≡ key_order m n → is_eq o ≡ eqb m n
+told_same m n e =
+    rw e (
+    ordered m n
+    (λ h. rw (order-less h, ne_eqb m n (λ z. omega arith)))
+    (λ h. rw (order_same h, eq-eqb m n h))
+    (λ h. rw (order-more h, ne_eqb m n (λ z. omega arith))))
 
 -- KEYS IN TWO PARTS
 -- two numbers with the low digits u and v are equal if the high ones are, and the low ones

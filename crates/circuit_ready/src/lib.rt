@@ -15,29 +15,17 @@ ghost use Rattle.circuit_ready.specs.Routers.{stands, stands_at, ready_for, read
 ghost use Rattle.circuit_ready.specs.Steps.{HeadAt, StartsAt, SameWords};
 
 use circuit_layout::{PER_INSTANCE, PER_SEGMENT, WIDTH};
-use rows::{Found, Order};
 
 // How many words of a route's row, its kind and its tag, stand before its address.
 const HEAD: usize = 2;
 
-// Whether a route stands, and where the next look starts: after it, or at the place where it would stand.
-#[derive(Clone, Copy)]
-struct Seen {
-    stands: bool,
-    next: usize,
-}
-
 // Whether the words from `start` on are the key.
+#[tactic(auto, using(crate::proofs::Stands::told_same))]
 fn same_at(c: &[u32], start: usize, key: &[u32]) -> bool
     requires { start + length key.now ≤ length c.now }
     ensures { result ≡ eqb (row_key (take (length key.now) (drop start c.now))) (row_key key.now) }
 {
-    let order = rows::compare(c, start, key);
-    match order {
-        Order::Less => false,
-        Order::Equal => true,
-        Order::Greater => false,
-    }
+    rows::compare(c, start, key).is_eq()
 }
 
 // Whether the route of a kind and tag of the router with this address, as a row of words, stands where a row in use starts.
@@ -68,25 +56,20 @@ fn both_at(circuits: &[u32], segment: usize, instance: usize, tag: u32, address:
     is_at(circuits, instance, PER_INSTANCE, tag, address)
 }
 
-// Looks for a route of the router with this address, at the place `first` before all others.
-fn look_for(circuits: &[u32], first: usize, kind: u32, tag: u32, address: &[u32]) -> Seen
+// Looks for a route of the router with this address, at the place `first` before all others: whether it stands, and where the next look starts, after it or at
+// the place where it would stand.
+fn look_for(circuits: &[u32], first: usize, kind: u32, tag: u32, address: &[u32]) -> (bool, usize)
     requires { ValidCircuits circuits.now × IsAddress address.now }
-    ensures stands { result.stands ≡ stands (circuits_in circuits.now) (kind ∷ tag ∷ address.now) }
-    ensures next { result.next ≡ rank row_key (row_key (kind ∷ tag ∷ address.now)) (circuits_in circuits.now) + bit result.stands }
+    ensures stands { result.0 ≡ stands (circuits_in circuits.now) (kind ∷ tag ∷ address.now) }
+    ensures next { result.1 ≡ rank row_key (row_key (kind ∷ tag ∷ address.now)) (circuits_in circuits.now) + bit result.0 }
 {
     let row = [
         kind, tag, address[0], address[1], address[2], address[3], address[4],
     ];
     let found = circuit_layout::look(circuits, first, &row);
     match found {
-        Found::At(at) => Seen {
-            stands: true,
-            next: at + 1,
-        },
-        Found::Missing(at) => Seen {
-            stands: false,
-            next: at,
-        },
+        Ok(at) => (true, at + 1),
+        Err(at) => (false, at),
     }
 }
 
@@ -101,23 +84,21 @@ fn circuit_set(t: &[u32], circuits: &[u32], tag: u32) -> u64
     let mut set = 0;
     let mut segment = 0;
     let mut instance = 0;
-    let mut at = 0;
-    while at < n {
+    for at in 0..n {
         let address = layout::address_at(t, at);
         if both_at(circuits, segment, instance, tag, address) {
             set = places::with(set, at);
             segment += WIDTH;
             instance += WIDTH;
         } else {
-            let per_segment = look_for(circuits, segment / WIDTH, PER_SEGMENT, 0, address);
-            let per_instance = look_for(circuits, instance / WIDTH, PER_INSTANCE, tag, address);
-            segment = per_segment.next * WIDTH;
-            instance = per_instance.next * WIDTH;
-            if per_segment.stands & per_instance.stands {
+            let (first, next) = look_for(circuits, segment / WIDTH, PER_SEGMENT, 0, address);
+            segment = next * WIDTH;
+            let (other, next) = look_for(circuits, instance / WIDTH, PER_INSTANCE, tag, address);
+            instance = next * WIDTH;
+            if first & other {
                 set = places::with(set, at);
             }
         }
-        at += 1;
     }
     set
 }
@@ -136,8 +117,7 @@ fn addresses_are(t: &[u32], circuits: &[u32], start: usize, n: usize, width: usi
     requires { Valid t.now × (n ≤ length (table_in t.now).entries) × (length circuits.now ≡ 1793) × (start + n * 7 ≤ 1792) × (width ≤ 5) }
     ensures { result ≡ true → (i : ℕ) → i < n → SameWords width t.now (i * 5) circuits.now (i * 7 + 2) × SameWords width t.now (i * 5) circuits.now (start + (i * 7 + 2)) }
 {
-    let mut i = 0;
-    while i < n {
+    for i in 0..n {
         let at = i * address::WIDTH;
         let end = at + width;
         let address = &t[at..end];
@@ -149,7 +129,6 @@ fn addresses_are(t: &[u32], circuits: &[u32], start: usize, n: usize, width: usi
         if !same_at(circuits, other, address) {
             return false;
         }
-        i += 1;
     }
     true
 }
@@ -197,10 +176,8 @@ pub fn circuit_candidates(t: &[u32], ac_df: bool, circuits: &[u32], tag: u32) ->
     ensures { result ≡ candidate_set ac_df (ready_routers (circuits_in circuits.now) tag (table_in t.now).entries) (table_in t.now).entries }
 {
     let n = layout::count(t);
-    if ac_df {
-        if !all_ready(t, circuits, n, tag) {
-            return circuit_set(t, circuits, tag);
-        }
+    if ac_df && !all_ready(t, circuits, n, tag) {
+        return circuit_set(t, circuits, tag);
     }
     places::below(n)
 }

@@ -21,8 +21,8 @@ fn join(t: &mut [u32], n: u8)
 {
     let octets = route_of(n);
     let mut community = [0u8; 8];
-    community::write(&mut community, 0, true, false, 0);
-    segment::announce(t, &octets, &community);
+    let _ = community::write(&mut community, 0, true, false, 0);
+    let _ = segment::announce(t, &octets, &community);
 }
 
 // A segment of the routers 1 to 3.
@@ -42,9 +42,9 @@ fn come_up(c: &mut [u32], n: u8)
     requires { ValidCircuits c.old }
     ensures { ValidCircuits c.new }
 {
-    segment::announce_circuit(c, Scope::Segment, router(n));
-    segment::announce_circuit(c, Scope::Instance(FIRST), router(n));
-    segment::announce_circuit(c, Scope::Instance(SECOND), router(n));
+    let _ = segment::announce_circuit(c, Scope::Segment, router(n));
+    let _ = segment::announce_circuit(c, Scope::Instance(FIRST), router(n));
+    let _ = segment::announce_circuit(c, Scope::Instance(SECOND), router(n));
 }
 
 // Prints the router that is elected for a tag, 0 for none, and N, beside what they should be.
@@ -59,10 +59,9 @@ fn show(
 ) -> io::Result<()>
     requires { ValidSegment t.now × ValidCircuits c.now }
 {
-    let answer = segment::elect_by_circuits(t, c, tag);
-    let address = answer.address;
-    show_number(rt, name, (address[0] % 256) as u64, wanted)?;
-    show_number(rt, b"  candidates", answer.n as u64, wanted_n)
+    let (_, e) = answers::told(segment::elect_by_circuits(t, c, tag));
+    show_number(rt, name, (e.address[0] % 256) as u64, wanted)?;
+    show_number(rt, b"  candidates", e.n as u64, wanted_n)
 }
 
 // All three come up.
@@ -83,7 +82,7 @@ fn circuit_down(rt: &impl Print, t: &[u32], c: &mut [u32]) -> io::Result<()>
     requires { ValidSegment t.now × ValidCircuits c.old }
     ensures { ValidCircuits c.new }
 {
-    segment::withdraw_circuit(c, Scope::Instance(FIRST), router(2));
+    let _ = segment::withdraw_circuit(c, Scope::Instance(FIRST), router(2));
     show(rt, b"router 2 loses tag 100: tag 100", t, c, FIRST, 1, 2)?;
     show(rt, b"router 2 loses tag 100: tag 200", t, c, SECOND, 3, 3)
 }
@@ -93,7 +92,7 @@ fn link_down(rt: &impl Print, t: &[u32], c: &mut [u32]) -> io::Result<()>
     requires { ValidSegment t.now × ValidCircuits c.old }
     ensures { ValidCircuits c.new }
 {
-    segment::withdraw_circuit(c, Scope::Segment, router(3));
+    let _ = segment::withdraw_circuit(c, Scope::Segment, router(3));
     show(
         rt,
         b"router 3 loses the segment: tag 200",
@@ -103,7 +102,7 @@ fn link_down(rt: &impl Print, t: &[u32], c: &mut [u32]) -> io::Result<()>
         1,
         2,
     )?;
-    segment::announce_circuit(c, Scope::Segment, router(3));
+    let _ = segment::announce_circuit(c, Scope::Segment, router(3));
     show(rt, b"router 3 is back: tag 200", t, c, SECOND, 3, 3)
 }
 
@@ -112,11 +111,16 @@ fn numbers(rt: &impl Print, c: &mut [u32]) -> io::Result<()>
     requires { ValidCircuits c.old }
 {
     let again = segment::announce_circuit(c, Scope::Segment, router(3));
-    show_number(rt, b"announced again", again as u64, 0)?;
+    show_number(rt, b"announced again", refusals::number(&again) as u64, 0)?;
     let gone = segment::withdraw_circuit(c, Scope::Instance(FIRST), router(2));
-    show_number(rt, b"withdrawn again", gone as u64, 9)?;
+    show_number(rt, b"withdrawn again", refusals::number(&gone) as u64, 9)?;
     let reserved = segment::announce_circuit(c, Scope::Instance(0), router(2));
-    show_number(rt, b"a reserved tag", reserved as u64, 10)
+    show_number(
+        rt,
+        b"a reserved tag",
+        refusals::number(&reserved) as u64,
+        10,
+    )
 }
 
 // The whole example, upon a fresh table of A-D routes.

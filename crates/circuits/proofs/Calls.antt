@@ -15,12 +15,15 @@ use Rattle.keyed.specs.Keyed.{spliced, without_at, has, insert, remove}
 use Rattle.keyed.proofs.Keyed as keyed
 use Rattle.keyed.proofs.Order.{length-insert-room, length-remove-le}
 use Rattle.rows.specs.Rows.{row_key, found_in}
-use Rattle.rows.specs.declared.Found.TheVariants.{At, Missing}
+use Rattle.std.specs.Prelude.{Ok, Err}
 use Rattle.rows.proofs.Places.{found_at, found-missing, insert-at, insert-missing, remove-at}
 use Rattle.circuit_layout.specs.declared.Scope.{Scope}
 use Rattle.circuit_layout.specs.Circuits.{ad_row, reserved_scope, AdRoute, CircuitsRight}
 use Rattle.circuits.specs.Changes.{ad_announce_number, ad_withdraw_number, AdChange, ad_changed, ad_announced, ad_withdrawn}
 use Rattle.circuits.specs.Steps.{ad_refused}
+use Rattle.refusals.proofs.Laws.{no-zero}
+use Rattle.refusals.specs.Numbers.{refusal_number}
+use Rattle.refusals.specs.declared.Refusal.{Refusal}
 
 -- an answer by its number
 alike : {n m : ℕ} (old new : List (List ℕ)) → n ≡ m → ad_changed n old new ≡ ad_changed m old new
@@ -56,39 +59,39 @@ module _ (l : List (List ℕ)) (w : CircuitsRight l) (s : Scope) (a : List ℕ) 
   row = ad_row s a
 
   -- what is refused whatever the table holds
-  pub announced-refused : (n : ℕ) → n ≡ ad_refused s a → (n ≡ 0 → ⊥) → answered n l ≡ ad_announced l s a
+  pub announced-refused : (r : Refusal) {n : ℕ} → n ≡ refusal_number r → refusal_number r ≡ ad_refused s a → answered n l ≡ ad_announced l s a
   unfolding ad_announced ad_announce_number ad_refused
-  announced-refused n e m = refuses l _ (e ∙ refused-first _ _ (λ q. m (e ∙ q))) m
+  announced-refused r q e = refuses l _ (q ∙ e ∙ refused-first _ _ (λ z. no-zero r (e ∙ z))) (λ z. no-zero r (sym q ∙ z))
 
-  pub withdrawn-refused : (n : ℕ) → n ≡ ad_refused s a → (n ≡ 0 → ⊥) → answered n l ≡ ad_withdrawn l s a
+  pub withdrawn-refused : (r : Refusal) {n : ℕ} → n ≡ refusal_number r → refusal_number r ≡ ad_refused s a → answered n l ≡ ad_withdrawn l s a
   unfolding ad_withdrawn ad_withdraw_number ad_refused
-  withdrawn-refused n e m = refuses l _ (e ∙ refused-first _ _ (λ q. m (e ∙ q))) m
+  withdrawn-refused r q e = refuses l _ (q ∙ e ∙ refused-first _ _ (λ z. no-zero r (e ∙ z))) (λ z. no-zero r (sym q ∙ z))
 
   module _ (z : is_zero a ≡ false) where
     module _ (t : reserved_scope s ≡ false) (i : ℕ) where
       -- the route that is found is the one announced, and nothing changes
-      pub announced-at : found_in row_key (row_key row) l ≡ At i → get_or l i [] ≡ row → answered 0 l ≡ ad_announced l s a
+      pub announced-at : found_in row_key (row_key row) l ≡ Ok i → get_or l i [] ≡ row → answered 0 l ≡ ad_announced l s a
       unfolding ad_announced ad_announce_number
       announced-at h e =
           let f = found_at row_key (row_key row) l i h in
           let same : insert row_key row l ≡ l = insert-at row_key (row_key row) l 0 [] w.rising row i refl h ∙ ap (set l i) (sym e) ∙ set-get_or l i [] in
           rw same (alike l _ (refused_none _ (z, (t, (ap (λ (b : Bool). not (b || ltb (length l) 256)) f.0, tt)))))
 
-      pub announced-full : found_in row_key (row_key row) l ≡ Missing i → 256 ≤ length l → answered 8 l ≡ ad_announced l s a
+      pub announced-full : found_in row_key (row_key row) l ≡ Err i → 256 ≤ length l → answered 8 l ≡ ad_announced l s a
       unfolding ad_announced ad_announce_number
       announced-full h k = alike l _ (refused-at 2 _ (z, (t, tt)) (rw ((found-missing row_key (row_key row) l i h).0, le-ltb _ _ k)))
 
-      pub announced-new : found_in row_key (row_key row) l ≡ Missing i → length l < 256 → answered 0 (spliced l i row) ≡ ad_announced l s a
+      pub announced-new : found_in row_key (row_key row) l ≡ Err i → length l < 256 → answered 0 (spliced l i row) ≡ ad_announced l s a
       unfolding ad_announced ad_announce_number
       announced-new h k =
           let f = found-missing row_key (row_key row) l i h in
           rw (← insert-missing row_key (row_key row) l row [] i refl h) (alike l _ (refused_none _ (z, (t, (rw (f.0, lt-ltb _ _ k), tt)))))
 
-      pub withdrawn-missing : found_in row_key (row_key row) l ≡ Missing i → answered 9 l ≡ ad_withdrawn l s a
+      pub withdrawn-missing : found_in row_key (row_key row) l ≡ Err i → answered 9 l ≡ ad_withdrawn l s a
       unfolding ad_withdrawn ad_withdraw_number
       withdrawn-missing h = alike l _ (refused-at 2 _ (z, (t, tt)) (ap not (found-missing row_key (row_key row) l i h).0))
 
-      pub withdrawn-at : found_in row_key (row_key row) l ≡ At i → answered 0 (without_at l i) ≡ ad_withdrawn l s a
+      pub withdrawn-at : found_in row_key (row_key row) l ≡ Ok i → answered 0 (without_at l i) ≡ ad_withdrawn l s a
       unfolding ad_withdrawn ad_withdraw_number
       withdrawn-at h =
           let f = found_at row_key (row_key row) l i h in

@@ -9,7 +9,7 @@ use Rattle.address.specs.Address.{IsAddress}
 use Rattle.address.proofs.Laws.{key-injective, key_row}
 use Rattle.keyed.specs.Keyed.{Rising}
 use Rattle.rows.specs.Rows.{column, flat, row_key, found_in}
-use Rattle.rows.specs.declared.Found.TheVariants.{At}
+use Rattle.std.specs.Prelude.{Ok}
 use Rattle.rows.proofs.Compared.{Words, words-part}
 use Rattle.rows.proofs.Places.{present-at}
 use Rattle.circuit_layout.specs.declared.Scope.{Scope}
@@ -55,7 +55,7 @@ module _ (b : List ℕ) (h : ValidCircuits b) where
     withdrawn-stored m x e q = stored (ad_withdrawn l s a) m x e (withdrawn-kept l h.sound s a) q
 
     -- the route that is found stands there already
-    pub same_route : (i : ℕ) → length (ad_row s a) ≡ 7 → Words (ad_row s a) → Words b → found_in row_key (row_key (ad_row s a)) l ≡ At i → get_or l i [] ≡ ad_row s a
+    pub same_route : (i : ℕ) → length (ad_row s a) ≡ 7 → Words (ad_row s a) → Words b → found_in row_key (row_key (ad_row s a)) l ≡ Ok i → get_or l i [] ≡ ad_row s a
     same_route i n u v f =
         let p = present-at row_key (row_key (ad_row s a)) l 0 [] h.sound.rising i f in
         let r = get_or l i [] in

@@ -3,6 +3,7 @@
 #![tactic(auto)]
 
 use example_tables::{empty_table, route_of};
+use refusals::RefusalAt;
 use std::io;
 use vector_lines::{show_hex, show_offset};
 
@@ -10,6 +11,14 @@ use vector_lines::{show_hex, show_offset};
 fn digests(rt: &impl Print) -> io::Result<()> {
     let text = b"123456789";
     show_hex(rt, b"CRC-32 of 123456789", hrw::crc32(text), 0xCBF43926)
+}
+
+// The number and the offset of a reader's answer: both 0 where it is not refused.
+fn told<T>(read: &Result<T, RefusalAt>) -> (u64, u64) {
+    match read {
+        Ok(_) => (0, 0),
+        Err(refused) => (refused.refusal.number() as u64, refused.offset as u64),
+    }
 }
 
 // What reading a text tells.
@@ -20,15 +29,8 @@ fn show_text(
     wanted: u64,
     wanted_offset: u64,
 ) -> io::Result<()> {
-    let read = esi::read_text(text);
-    show_offset(
-        rt,
-        name,
-        read.number as u64,
-        read.offset as u64,
-        wanted,
-        wanted_offset,
-    )
+    let (number, offset) = told(&esi::read_text(text));
+    show_offset(rt, name, number, offset, wanted, wanted_offset)
 }
 
 // Texts with wrong characters: the first is told.
@@ -87,15 +89,8 @@ fn show_route(
     wanted: u64,
     wanted_offset: u64,
 ) -> io::Result<()> {
-    let read = route_fields::read(octets);
-    show_offset(
-        rt,
-        name,
-        read.number as u64,
-        read.offset as u64,
-        wanted,
-        wanted_offset,
-    )
+    let (number, offset) = told(&route_fields::read(octets));
+    show_offset(rt, name, number, offset, wanted, wanted_offset)
 }
 
 // Runs of octets with a wrong total: 20 of them, and 24 with length octet 22, where the total is told.
@@ -131,15 +126,8 @@ fn route_bits(rt: &impl Print) -> io::Result<()> {
     show_route(rt, b"address length 31", &octets, 3, 20)?;
     let t = empty_table();
     let mut words = t.words;
-    let change = segment::announce(&mut words, &octets, b"");
-    show_offset(
-        rt,
-        b"address length 31, announced",
-        change.number as u64,
-        change.offset as u64,
-        3,
-        20,
-    )
+    let (number, offset) = told(&segment::announce(&mut words, &octets, b""));
+    show_offset(rt, b"address length 31, announced", number, offset, 3, 20)
 }
 
 fn main(rt: HostRuntime) -> io::Result<()> {

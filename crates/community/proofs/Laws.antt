@@ -13,10 +13,9 @@ use Rattle.lists.proofs.Bools.{by-test, not-true-false, cond-by, one_of_two}
 use Rattle.lists.proofs.Checks.{refused-at, refused_none}
 use Rattle.octets.specs.Octets.{number_of, octets_of, stored}
 use Rattle.octets.proofs.Laws.{length-octets, number-octets-small, stored-front, take-elements}
-use Rattle.community.specs.Community.{weighs_preference, election_under, no_election, read_community, community_octets, is_election, communities, elections, chosen, list_fits, election_in, read_list, write_number, community_written}
+use Rattle.community.specs.Community.{weighs_preference, election_under, no_election, read_community, community_octets, is_election, communities, elections, chosen, list_fits, election_in, read_list, write_number, community_written, ListRead}
 use Rattle.community.specs.Search.{elections_from}
 use Rattle.community.specs.declared.Election.{Election}
-use Rattle.community.specs.declared.ListRead.{ListRead}
 
 -- WHAT A COMMUNITY SAYS under an algorithm
 abbrev Says : ℕ → Bool → Bool → ℕ → Election
@@ -66,6 +65,9 @@ module _ (s : List ℕ) (at : ℕ) where
     pub from_second : (get_or s (at + 1) 0 ≡ 6 → ⊥) → elections_from s at ≡ elections_from s (at + 8)
     from_second p = from_step ∙ rw (is-election, ne_eqb _ _ p, and-false)
 
+-- what the code of the search goes by
+pub ruleset walking = (from_end, from-hit, from_first, from_second)
+
 -- the community at a place, read octet by octet
 module _ (s : List ℕ) (at v : ℕ) where
   preference : at + 8 ≤ length s → take 2 (drop 6 (take 8 (drop at s))) ≡ get_or s (at + 6) 0 ∷ get_or s (at + 7) 0 ∷ []
@@ -113,6 +115,9 @@ module _ (s : List ℕ) where
       pub list-several : (d : List ℕ) (cs : List (List ℕ)) → elections_from s n ≡ d ∷ cs → record { number = 0; election = no_election } ≡ read_list s
       unfolding chosen
       list-several d cs f = list_read (c ∷ d ∷ cs) (e ∙ ap (c ∷◌) f)
+
+-- what the code of the reader goes by
+pub ruleset lists_read = (list-long, list-odd, list-none, list-one, list-several)
 
 -- a list is refused exactly if its length is wrong, and its number tells which it is
 answer-of : (s : List ℕ) (b : Bool) → list_fits s ≡ b → read_list s ≡ cond b (record { number = 0; election = election_in s }) (record { number = 7; election = no_election })
@@ -227,6 +232,22 @@ module _ (d : List ℕ) (a : ℕ) (ac dp : Bool) (p : ℕ) where
     wrote l o w q =
         let f : l ≡ community_octets e ++ drop 8 d = q ∙ rw (w, stored-front d (community_octets e) (omega (arith, length-community e)), length-community e) in
         (number-right, (f ∙ community-written, λ z. rw f reads-back))
+
+-- what the code of the writer goes by
+module _ (d : List ℕ) (a : ℕ) (ac dp : Bool) (p : ℕ) where
+  pub number_high : 31 < a → 15 ≡ write_number a (length d)
+  number_high h = (wrote-high d a ac dp p h).0
+
+  pub kept_high : 31 < a → d ≡ community_written d a ac dp p
+  kept_high h = (wrote-high d a ac dp p h).1.0
+
+  pub number_short : a ≤ 31 → length d < 8 → 14 ≡ write_number a (length d)
+  number_short h k = (wrote-short d a ac dp p h k).0
+
+  pub kept_short : a ≤ 31 → length d < 8 → d ≡ community_written d a ac dp p
+  kept_short h k = (wrote-short d a ac dp p h k).1.0
+
+pub ruleset writing = (number_high, kept_high, number_short, kept_short)
 
 -- WHAT A LIST CAN SAY: an algorithm of five bits, and DP and preference under 2 and 3 only
 abbrev pub Right : Election → Type 0

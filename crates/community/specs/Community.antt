@@ -10,15 +10,18 @@
 --   chosen cs                == what the election communities cs of one route say together
 --   list_fits s               == whether a list of communities has a length that is allowed
 --   election_in s             == what the list of communities s says
+--   ListRead                  == the number of a reading, and what was read
+--   told_list r               == the reading that the reader's result r is
 --   read_list s               == the answer of the list's reader
 --   write_number a n          == the answer of the writer, for the algorithm a and a buffer of n octets
 --   community_written d ..    == what a buffer holds after the writer, where it held d
-use Rattle.std.specs.Prelude.{ℕ, zero, suc, ◌+◌, ◌/◌, ◌%◌, Bool, false, cond, ◌&&◌, ◌||◌, List, [], ◌∷◌, ◌++◌, length, get_or, take, drop, ltb, leb, eqb}
+use Rattle.std.specs.Prelude.{ℕ, zero, suc, ◌+◌, ◌/◌, ◌%◌, Bool, false, cond, ◌&&◌, ◌||◌, List, [], ◌∷◌, ◌++◌, length, get_or, take, drop, ltb, leb, eqb, Result, Ok, Err}
 use Rattle.lists.specs.Checks.{first_refusal}
 use Rattle.octets.specs.Octets.{number_of, octets_of}
 use Rattle.refusals.specs.Refusals.{algorithm_not_usable, buffer_short, list_length}
+use Rattle.refusals.specs.Numbers.{refusal_number}
+use Rattle.refusals.specs.declared.Refusal.{Refusal}
 use Rattle.community.specs.declared.Election.{Election}
-use Rattle.community.specs.declared.ListRead.{ListRead}
 
 abbrev pub weighs_preference : ℕ → Bool
 weighs_preference a = eqb a 2 || eqb a 3
@@ -67,6 +70,14 @@ list_fits s = leb (length s) 256 && eqb (length s % 8) 0
 
 unfoldable pub election_in : List ℕ → Election
 election_in s = chosen (elections (communities (length s / 8) s))
+
+pub record ListRead : Type 0 where
+  pub number : ℕ
+  pub election : Election
+
+abbrev pub told_list : Result Election Refusal → ListRead
+told_list (Ok e) = record { number = 0; election = e }
+told_list (Err r) = record { number = refusal_number r; election = no_election }
 
 unfoldable pub read_list : List ℕ → ListRead
 read_list s =

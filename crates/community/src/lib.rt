@@ -2,10 +2,11 @@
 #![tactic(auto)]
 
 ghost use Rattle.std.specs.Prelude.{◌≡◌, cond, ◌&&◌, ◌+◌, ◌≤◌, ◌%◌, length, take, drop, eqb};
-ghost use Rattle.community.specs.Community.{election_under, read_community, read_list, write_number, community_written};
+ghost use Rattle.refusals.specs.Numbers.{number_of};
+ghost use Rattle.community.specs.Community.{election_under, read_community, read_list, told_list, write_number, community_written};
 ghost use Rattle.community.specs.Search.{FirstFrom};
 
-use refusals::{ALGORITHM_NOT_USABLE, BUFFER_SHORT, LIST_LENGTH};
+use refusals::Refusal;
 
 // What a route says of the election: document 01's entry without its address.
 #[derive(Clone, Copy)]
@@ -16,20 +17,7 @@ pub struct Election {
     pub preference: u16,
 }
 
-// The number of a reading, and what was read.
-#[derive(Clone, Copy)]
-pub struct ListRead {
-    pub number: u8,
-    pub election: Election,
-}
-
-// Where an election community starts in a list.
-#[derive(Clone, Copy)]
-pub enum CommunityStart {
-    At(usize),
-    Nowhere,
-}
-
+// What a route without an election community says.
 const NO_ELECTION: Election = Election {
     algorithm: 0,
     ac_df: false,
@@ -44,14 +32,14 @@ fn under(algorithm: u8, ac_df: bool, dp: bool, preference: u16) -> Election
 {
     match algorithm {
         2 | 3 => Election {
-            algorithm: algorithm,
-            ac_df: ac_df,
-            dp: dp,
-            preference: preference,
+            algorithm,
+            ac_df,
+            dp,
+            preference,
         },
         _ => Election {
-            algorithm: algorithm,
-            ac_df: ac_df,
+            algorithm,
+            ac_df,
             dp: false,
             preference: 0,
         },
@@ -59,6 +47,7 @@ fn under(algorithm: u8, ac_df: bool, dp: bool, preference: u16) -> Election
 }
 
 // What the community at position `at` of a list says.
+#[tactic(auto, using(crate::proofs::Laws::read_at))]
 fn read_at(s: &[u8], at: usize) -> Election
     requires { at + 8 ≤ length s.now }
     ensures { result ≡ read_community (take 8 (drop at s.now)) }
@@ -72,58 +61,37 @@ fn read_at(s: &[u8], at: usize) -> Election
 }
 
 // Where the first election community at or after position `from` starts.
-fn find(s: &[u8], from: usize) -> CommunityStart
+#[tactic(auto, using(crate::proofs::Laws::walking))]
+fn find(s: &[u8], from: usize) -> Option<usize>
     requires { (length s.now % 8 ≡ 0) × (from % 8 ≡ 0) × (from ≤ length s.now) }
     ensures { FirstFrom s.now from result }
 {
     let mut at = from;
     while at < s.len() {
-        if s[at] == 6 {
-            if s[at + 1] == 6 {
-                return CommunityStart::At(at);
-            }
+        if s[at] == 6 && s[at + 1] == 6 {
+            return Some(at);
         }
         at += 8;
     }
-    CommunityStart::Nowhere
+    None
 }
 
 // Reads a list of communities: 7 for a length over 256 or not a multiple of 8. Communities that do not start 06 06 are skipped; several
 // election communities count as none, alike or not, and none means algorithm 0 without capabilities.
-pub fn read_list(s: &[u8]) -> ListRead
-    ensures { result ≡ read_list s.now }
+#[tactic(auto, using(crate::proofs::Laws::lists_read))]
+pub fn read_list(s: &[u8]) -> Result<Election, Refusal>
+    ensures { told_list result ≡ read_list s.now }
 {
-    if 256 < s.len() {
-        return ListRead {
-            number: LIST_LENGTH,
-            election: NO_ELECTION,
-        };
+    if 256 < s.len() || s.len() % 8 != 0 {
+        return Err(Refusal::ListLength);
     }
-    if s.len() % 8 != 0 {
-        return ListRead {
-            number: LIST_LENGTH,
-            election: NO_ELECTION,
-        };
-    }
-    let first = find(s, 0);
-    let CommunityStart::At(at) = first else {
-        return ListRead {
-            number: 0,
-            election: NO_ELECTION,
-        };
+    let Some(at) = find(s, 0) else {
+        return Ok(NO_ELECTION);
     };
     let election = read_at(s, at);
-    let second = find(s, at + 8);
-    let CommunityStart::At(_) = second else {
-        return ListRead {
-            number: 0,
-            election: election,
-        };
-    };
-    let as_none = NO_ELECTION;
-    ListRead {
-        number: 0,
-        election: as_none,
+    match find(s, at + 8) {
+        None => Ok(election),
+        Some(_) => Ok(NO_ELECTION),
     }
 }
 
@@ -140,21 +108,28 @@ fn capabilities(dp: bool, ac_df: bool) -> u8
 
 // Writes an election community into the first 8 octets of a buffer: 15 for an algorithm above 31, then 14 for a buffer under 8 octets,
 // which leave the buffer as it is. What was written reads back as it was meant.
-pub fn write(buf: &mut [u8], algorithm: u8, ac_df: bool, dp: bool, preference: u16) -> u8
-    ensures number { result ≡ write_number algorithm (length buf.old) }
+#[tactic(auto, using(crate::proofs::Laws::writing))]
+pub fn write(
+    buf: &mut [u8],
+    algorithm: u8,
+    ac_df: bool,
+    dp: bool,
+    preference: u16,
+) -> Result<(), Refusal>
+    ensures number { number_of result ≡ write_number algorithm (length buf.old) }
     ensures written { buf.new ≡ community_written buf.old algorithm ac_df dp preference }
-    ensures reads { result ≡ 0 → read_list (take 8 buf.new) ≡ record { number = 0; election = election_under algorithm ac_df dp preference } }
+    ensures reads { number_of result ≡ 0 → read_list (take 8 buf.new) ≡ record { number = 0; election = election_under algorithm ac_df dp preference } }
 {
     if 31 < algorithm {
-        return ALGORITHM_NOT_USABLE;
+        return Err(Refusal::AlgorithmNotUsable);
     }
     if buf.len() < 8 {
-        return BUFFER_SHORT;
+        return Err(Refusal::BufferShort);
     }
     let e = under(algorithm, ac_df, dp, preference);
     let flags = capabilities(e.dp, ac_df);
     let p = octets::of_u16(e.preference);
     let image = [6, 6, algorithm, flags, 0, 0, p[0], p[1]];
     octets::store(buf, 0, &image);
-    0
+    Ok(())
 }

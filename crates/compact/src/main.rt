@@ -10,12 +10,11 @@ use blocks::Next;
 use std::io::Read;
 use turns::Phase;
 
-// Where the program stands: the phase of the run, how many octets of the block are filled, and whether there is more to do.
+// Where the program stands, while there is more to do: the phase of the run, and how many octets of the block are filled.
 #[derive(Clone, Copy)]
 struct Work {
     phase: Phase,
     filled: usize,
-    going: bool,
 }
 
 // Says that the log is none that can be made short.
@@ -29,12 +28,10 @@ fn refuse(rt: &impl Eprint) {
 fn write_short(rt: &(impl Print + Eprint), t: &[u32], out: &mut [u8])
     requires { Valid t.now }
 {
-    let told = compaction::write_log(t, out);
-    let length = told.length;
-    if told.number != 0 {
+    let Ok(length) = compaction::write_log(t, out) else {
         refuse(rt);
         return;
-    }
+    };
     if rt.write_all(&out[..length]).is_err() {
         let _ = rt.eprintln("compact: writing to standard output failed");
     }
@@ -78,28 +75,19 @@ fn read_more(
     block: &mut [u8],
     filled: usize,
     out: &mut [u8],
-) -> Work
+) -> Option<Work>
     requires { (filled < length block.old) × Valid t.now }
 {
     match read_some(rt, input, &mut block[filled..]) {
-        None => Work {
-            phase,
-            filled,
-            going: false,
-        },
+        None => None,
         Some(0) => {
             end(rt, t, phase, filled, out);
-            Work {
-                phase,
-                filled,
-                going: false,
-            }
+            None
         }
-        Some(more) => Work {
+        Some(more) => Some(Work {
             phase,
             filled: filled + more,
-            going: true,
-        },
+        }),
     }
 }
 
@@ -112,7 +100,7 @@ fn turn(
     block: &mut [u8],
     filled: usize,
     out: &mut [u8],
-) -> Work
+) -> Option<Work>
     requires { (259 ≤ length block.old) × Valid t.old }
     ensures { Valid t.new }
 {
@@ -123,17 +111,12 @@ fn turn(
     match next {
         Next::Done => {
             refuse(rt);
-            Work {
-                phase: last,
-                filled: left,
-                going: false,
-            }
+            None
         }
-        Next::Again => Work {
+        Next::Again => Some(Work {
             phase: last,
             filled: left,
-            going: true,
-        },
+        }),
         Next::Read => read_more(rt, input, t, last, block, left, out),
     }
 }
@@ -149,15 +132,13 @@ fn run(rt: &(impl Input + Print + Eprint), block: &mut [u8], out: &mut [u8])
     let mut work = Work {
         phase: first,
         filled: 0,
-        going: true,
     };
     for _ in 0..u64::MAX {
-        if !work.going {
+        let Work { phase, filled } = work;
+        let Some(more) = turn(rt, &mut input, &mut t, phase, block, filled, out) else {
             return;
-        }
-        let phase = work.phase;
-        let filled = work.filled;
-        work = turn(rt, &mut input, &mut t, phase, block, filled, out);
+        };
+        work = more;
     }
 }
 

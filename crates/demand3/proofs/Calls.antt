@@ -23,10 +23,9 @@ use Rattle.table.proofs.Calls.{announced-kept, withdrawn-kept, passed-route, pas
 use Rattle.settings.specs.Settings.{Settings, numbers_set, ranges_given, SettingsRight, settings_in, SettingsTold}
 use Rattle.settings.proofs.Laws.{numbers-kept, numbers-refused, given-kept, given-refused}
 use Rattle.segment_state.specs.State.{Segment}
-use Rattle.answers.specs.declared.Answer.{Answer}
+use Rattle.answers.specs.Answers.{Answer}
 use Rattle.election.specs.Queries.{Query, elect_with}
-use Rattle.returning.specs.declared.Sent.{Sent}
-use Rattle.returning.specs.Returning.{returning_with}
+use Rattle.returning.specs.Returning.{Sent, returning_with}
 use Rattle.demand3.specs.Calls.{Call, announce, withdraw, set_numbers, set_ranges, elect, returning, change_reply, elect_reply, returning_reply, number_in, reply_to, table_left, settings_left, leaves, Changes}
 use Rattle.demand3.specs.Journal.{Announcement, originator_key, again, entry_from, call_number, call_effect, number_for}
 

@@ -17,10 +17,9 @@ use Rattle.table.proofs.Calls.{fresh_kept}
 use Rattle.settings.specs.Settings.{Settings, nothing_set, numbers_set, ranges_given, SettingsRight}
 use Rattle.settings.proofs.Laws.{none_right}
 use Rattle.segment_state.specs.State.{Segment, fresh_segment, segment_words}
-use Rattle.answers.specs.declared.Answer.{Answer}
+use Rattle.answers.specs.Answers.{Answer}
 use Rattle.election.specs.Queries.{Query, elect_with}
-use Rattle.returning.specs.declared.Sent.{Sent}
-use Rattle.returning.specs.Returning.{returning_with}
+use Rattle.returning.specs.Returning.{Sent, returning_with}
 use Rattle.demand3.specs.Calls.{Call, announce, withdraw, set_numbers, set_ranges, elect, returning, Reply, change_reply, elect_reply, returning_reply, number_in, reply_to, table_left, settings_left, leaves, Changes}
 use Rattle.demand3.specs.Journal.{Announcement, originator_key, again, entry_from, entries_from, call_number, call_effect, number_for, journal_of, step, journal_reply, set_again}
 use Rattle.demand3.specs.Demand3.{segment_after, Follows, Demand3}

@@ -17,10 +17,9 @@ use Rattle.layout.specs.Table.{Table}
 use Rattle.table.specs.Table.{announced, withdrawn}
 use Rattle.settings.specs.Settings.{Settings, numbers_set, ranges_given}
 use Rattle.segment_state.specs.State.{Segment}
-use Rattle.answers.specs.declared.Answer.{Answer}
+use Rattle.answers.specs.Answers.{Answer}
 use Rattle.election.specs.Queries.{Query, elect_with}
-use Rattle.returning.specs.declared.Sent.{Sent}
-use Rattle.returning.specs.Returning.{returning_with}
+use Rattle.returning.specs.Returning.{Sent, returning_with}
 
 pub data Call : Type 0 where
   announce : List ℕ → List ℕ → Call

@@ -23,9 +23,16 @@ pub extern "C" fn dumps_last_announcement<'a>(
     ensures { Answered (address_row (handed_in v6 w0 w1 w2 w3)) first.entry second.entry result part.new }
 {
     let address = export_forms::handed_in(v6, w0, w1, w2, w3);
-    let mut number = 0u8;
-    *part = dumps::last_announcement(first, second, address, &mut number);
-    number
+    match dumps::last_announcement(first, second, address) {
+        Ok(octets) => {
+            *part = octets;
+            0
+        }
+        Err(refusal) => {
+            *part = &first[0..0];
+            refusal.number()
+        }
+    }
 }
 
 // `hrw::digest`. It is here, where no election is: an election takes the digest in as its only caller.

@@ -67,10 +67,11 @@ fn show<'a>(
     wanted: u64,
     length: u64,
 ) -> io::Result<()> {
-    let mut number = 0u8;
-    let part = dumps::last_announcement(first, second, address, &mut number);
-    let octets = part.len() as u64;
-    show_number(rt, name, number as u64, wanted)?;
+    let (number, octets) = match dumps::last_announcement(first, second, address) {
+        Ok(part) => (0, part.len() as u64),
+        Err(refusal) => (refusal.number() as u64, 0),
+    };
+    show_number(rt, name, number, wanted)?;
     show_number(rt, b"  its octets", octets, length)
 }
 

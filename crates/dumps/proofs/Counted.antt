@@ -8,11 +8,15 @@ use lib.ListN.{length, get_or, take}
 use lib.Seq.{length-take-le, get_or-take}
 use lib.Dec.{eqb}
 use borrow.Author.Tests.{eq-eqb, ne_eqb}
+use Rattle.std.specs.Prelude.{Result, Ok, Err, is_ok}
 use Rattle.octets.specs.Octets.{number_of, word_at, same_numbers}
 use Rattle.octets.proofs.Laws.{take-elements}
+use Rattle.refusals.specs.Numbers.{refusal_number}
+use Rattle.refusals.specs.declared.RefusalAt.{RefusalAt}
 use Rattle.address.specs.Address.{address_row}
-use Rattle.route.specs.Route.{total_of, ipv4_in, ipv6_in, route_address, route_number}
-use Rattle.route.proofs.Laws.{total-least, originator-six, originator-four}
+use Rattle.address.specs.declared.Address.{Address}
+use Rattle.route.specs.Route.{total_of, ipv4_in, ipv6_in, route_address, route_number, route_checked, told_check}
+use Rattle.route.proofs.Laws.{told-originator, told-refused, total-least, originator-six, originator-four}
 use Rattle.judgement.specs.Judgement.{judged_of, is_bad}
 use Rattle.judgement.specs.declared.Judged.{Judged}
 use Rattle.judgement.specs.declared.Judged.TheVariants.{Announcement, Bad}
@@ -63,6 +67,17 @@ module _ (a p x : List ℕ) (e : x ≡ route_address (route_in p)) where
   pub of-this : (n : ℕ) → same_numbers x a ≡ true → n ≡ route_number (route_in p) → eqb n 0 ≡ announces a p
   unfolding announces
   of-this n m q = rw (← e, m, q) (sym (and-true (eqb (route_number (route_in p)) 0)))
+
+  -- by what the check answers
+  pub of-checked : (k : Result Address RefusalAt) → same_numbers x a ≡ true → told_check k ≡ route_checked (route_in p) → is_ok k ≡ announces a p
+  of-checked (Ok b) m q = of-this 0 m (sym (told-originator (route_in p) b (sym q)).0)
+  of-checked (Err r) m q =
+      let n = refusal_number r.refusal in
+      let t = told-refused (route_in p) n r.offset (sym q) in
+      sym (ne_eqb n 0 (λ z. t.0 (sym t.1.0 ∙ z))) ∙ of-this n m t.1.0
+
+-- what the code of the comparison goes by
+pub ruleset compared = (total-25, of-another, of-checked)
 
 -- ---- what a record is to the search
 

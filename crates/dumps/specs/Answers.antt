@@ -6,12 +6,15 @@
 --   PartOf s at n r     == r is the part of s that has n octets from position `at` on: it lies within, has these octets, and stands at that very place
 --   Last a s at r       == r is the octets of the record at position `at` of the dump s, which is an announcement and counts for the address a, and no record after it does
 --   Answered a s t n r  == the answer: the number n and the part r
-use Rattle.std.specs.Prelude.{ℕ, ◌+◌, ◌≤◌, ◌≡◌, Bool, true, false, cond, not, ◌||◌, ◌&&◌, List, [], ◌∷◌, ◌++◌, length, take, drop, eqb}
+--   HandedBack a s t r  == the same of a result: the part, or a refusal, which comes with none
+use Rattle.std.specs.Prelude.{ℕ, ◌+◌, ◌≤◌, ◌≡◌, Bool, true, false, cond, not, ◌||◌, ◌&&◌, Result, Ok, Err, List, [], ◌∷◌, ◌++◌, length, take, drop, eqb}
 use Rattle.std.specs.Borrow.{Bor}
 use Rattle.lists.specs.Lists.{Every}
 use Rattle.lists.specs.Checks.{first_refusal}
 use Rattle.address.specs.Address.{is_zero}
 use Rattle.refusals.specs.Refusals.{address_zero, not_present, bad_record}
+use Rattle.refusals.specs.Numbers.{refusal_number}
+use Rattle.refusals.specs.declared.Refusal.{Refusal}
 use Rattle.frames.specs.Frames.{record_of}
 use Rattle.dumps.specs.Dumps.{BenchRecord, Dump, broken, records, records_of, announces, counts, last_in}
 
@@ -57,3 +60,7 @@ pub record Answered (a : List ℕ) (s t : Bor (List ℕ)) (n : ℕ) (r : Bor (Li
   pub part : n ≡ 0 → PartOf (dump_of a s t) (last_in a (dump_of a s t).now).start (last_in a (dump_of a s t).now).len r
   pub last : n ≡ 0 → Last a (dump_of a s t).now (last_in a (dump_of a s t).now).start r.now
   pub empty : (n ≡ 0 → ⊥) → r.now ≡ []
+
+abbrev pub HandedBack : List ℕ → Bor (List ℕ) → Bor (List ℕ) → Result (Bor (List ℕ)) Refusal → Type 0
+HandedBack a s t (Ok r) = Answered a s t 0 r
+HandedBack a s t (Err e) = (refusal_number e ≡ last_number a s.now t.now) × (refusal_number e ≡ 0 → ⊥)

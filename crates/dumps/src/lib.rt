@@ -8,12 +8,17 @@ ghost use Rattle.address.specs.Address.{address_row};
 ghost use Rattle.route.specs.Route.{total_of, route_address};
 ghost use Rattle.dumps.specs.Dumps.{route_in, announces, last_in};
 ghost use Rattle.dumps.specs.Reads.{record_read, read_at};
-ghost use Rattle.dumps.specs.Answers.{Answered};
+ghost use Rattle.dumps.specs.Answers.{HandedBack};
 
 use address::{Address, Family};
 use frames::Frame;
 use judgement::Judged;
-use refusals::{ADDRESS_ZERO, BAD_RECORD, NOT_PRESENT};
+use refusals::Refusal;
+
+// The numbers of a dump that breaks the record rules, and of one without such a record.
+const BAD_RECORD: u8 = Refusal::BadRecord as u8;
+
+const NOT_PRESENT: u8 = Refusal::NotPresent as u8;
 
 // Where a record of a dump stands: with the number 0 its octets, mark and length included, are `len` from `start` on. With 9 there is no such record, and with 16 the dump breaks
 // the rules of records.
@@ -80,6 +85,7 @@ fn names(payload: &[u8], address: Address) -> bool
 }
 
 // Whether the payload of an announcement announces an address. The originator is compared first, so that only routes that name the address are checked.
+#[tactic(auto, using(crate::proofs::Counted::compared))]
 fn is_of(payload: &[u8], address: Address) -> bool
     requires { total_of (get_or payload.now 20 0) ≤ length payload.now }
     ensures { result ≡ announces (address_row address) payload.now }
@@ -88,8 +94,7 @@ fn is_of(payload: &[u8], address: Address) -> bool
         return false;
     }
     let n = route::total(payload[20]);
-    let checked = route::check(&payload[..n]);
-    route::number(checked) == 0
+    route::check(&payload[..n]).is_ok()
 }
 
 // What a whole record is to a search for an address, the first of the dump where `first` says so; `after` is the position after it.
@@ -162,45 +167,38 @@ fn last(s: &[u8], address: Address) -> Place
 }
 
 // Hands back the octets of the last announcement record of an address, mark and length included, from the first dump or, if there is none there, from the second: a part of that
-// dump, at its very place. The number goes through `number`: address zero, 6; either dump breaks the record rules, 16; neither has such a record, 9; else 0. With a refusal the part
-// is empty. Later withdrawals hide nothing; an announcement counts exactly if the route reader accepts its route; no text is read.
+// dump, at its very place. It is refused for address zero, with 6; where either dump breaks the record rules, with 16; where neither has such a record, with 9. Later withdrawals hide
+// nothing; an announcement counts exactly if the route reader accepts its route; no text is read.
 #[tactic(auto, using(crate::proofs::Answers::refusal_numbers))]
 pub fn last_announcement<'a>(
     first: &'a [u8],
     second: &'a [u8],
     address: Address,
-    number: &mut u8,
-) -> &'a [u8]
-    ensures { Answered (address_row address) first.entry second.entry number.new result }
+) -> Result<&'a [u8], Refusal>
+    ensures { HandedBack (address_row address) first.entry second.entry result }
 {
     if address::is_zero(address) {
-        *number = ADDRESS_ZERO;
-        return &first[0..0];
+        return Err(Refusal::AddressZero);
     }
     let one = last(first, address);
     let two = last(second, address);
     let one_number = one.number;
     let two_number = two.number;
     if one_number == BAD_RECORD {
-        *number = BAD_RECORD;
-        return &first[0..0];
+        return Err(Refusal::BadRecord);
     }
     if two_number == BAD_RECORD {
-        *number = BAD_RECORD;
-        return &first[0..0];
+        return Err(Refusal::BadRecord);
     }
     if one_number == 0 {
-        *number = 0;
         let start = one.start;
         let end = start + one.len;
-        return &first[start..end];
+        return Ok(&first[start..end]);
     }
     if two_number == 0 {
-        *number = 0;
         let start = two.start;
         let end = start + two.len;
-        return &second[start..end];
+        return Ok(&second[start..end]);
     }
-    *number = NOT_PRESENT;
-    &first[0..0]
+    Err(Refusal::NotPresent)
 }

@@ -22,9 +22,8 @@ use Rattle.agreement.specs.declared.InUse.{InUse}
 use Rattle.agreement.proofs.Laws.{in-use-none, in-use-four}
 use Rattle.ready.specs.Ready.{candidates, candidate_set, ready_in}
 use Rattle.ready.proofs.Laws.{length-ready}
-use Rattle.answers.specs.Answers.{refused_answer, named_answer, Method, by_tag, answer_by, Forwarder}
+use Rattle.answers.specs.Answers.{Answer, refused_answer, named_answer, Method, by_tag, answer_by, Forwarder}
 use Rattle.answers.specs.Steps.{digest_under, ElectedAt}
-use Rattle.answers.specs.declared.Answer.{Answer}
 use Rattle.answers.proofs.Laws.{elected-by, elected-at, ones_none, none-by, numbers-by, Answers, answers-12, answers-named, forwarder-by}
 use Rattle.election.specs.Election.{elect_of}
 use Rattle.election.specs.Queries.{Query, plain, right_lengths, flow_octets, number_for, agreed_on, plain_algorithm, method_for, method_of, candidates_of, elect_with, NoneNamed}

@@ -6,8 +6,7 @@ use Rattle.layout.specs.Table.{Entry}
 use Rattle.tags.specs.Tags.{reserved_tag}
 use Rattle.agreement.specs.Agreement.{in_use}
 use Rattle.ready.specs.Ready.{candidates, candidate_set}
-use Rattle.answers.specs.Answers.{refused_answer, by_tag, answer_by}
-use Rattle.answers.specs.declared.Answer.{Answer}
+use Rattle.answers.specs.Answers.{Answer, refused_answer, by_tag, answer_by}
 use Rattle.refusals.specs.Refusals.{tag_reserved, ready_too_long}
 
 -- 10 for a reserved tag, 11 for a list over 64, 12 where no route is eligible

@@ -20,8 +20,7 @@ use Rattle.ranges.specs.Ranges.{algorithm_in}
 use Rattle.settings.specs.Settings.{Settings}
 use Rattle.agreement.specs.Agreement.{in_use_with}
 use Rattle.ready.specs.Ready.{candidates, candidate_set}
-use Rattle.answers.specs.Answers.{refused_answer, Method, by_tag, answer_by}
-use Rattle.answers.specs.declared.Answer.{Answer}
+use Rattle.answers.specs.Answers.{Answer, refused_answer, Method, by_tag, answer_by}
 use Rattle.refusals.specs.Refusals.{tag_reserved, ready_too_long, flow_length, none_eligible}
 
 pub data Query : Type 0 where

@@ -5,8 +5,7 @@ use Rattle.std.specs.Prelude.{ℕ, ◌≡◌, Bool, List}
 use Rattle.std.specs.Int.Count.{ones}
 use Rattle.layout.specs.Table.{Entry}
 use Rattle.settings.specs.Settings.{Settings}
-use Rattle.answers.specs.Answers.{Forwarder}
-use Rattle.answers.specs.declared.Answer.{Answer}
+use Rattle.answers.specs.Answers.{Answer, Forwarder}
 use Rattle.election.specs.Queries.{Query, right_lengths, flow_octets, number_for, method_of, candidates_of, elect_with, NoneNamed}
 
 abbrev pub Elected : Settings → Query → List ℕ → List Entry → ℕ → List (List ℕ) → Answer → Type 0

@@ -9,14 +9,14 @@ ghost use Rattle.layout.specs.Words.{table_in, Valid};
 ghost use Rattle.settings.specs.Settings.{settings_in, ValidSettings};
 ghost use Rattle.ready.specs.Ready.{ready_in};
 ghost use Rattle.hrw.specs.Weight.{flow_digest_of};
-ghost use Rattle.answers.specs.Answers.{Forwarder};
+ghost use Rattle.answers.specs.Answers.{answer_of, Forwarder};
 ghost use Rattle.answers.specs.Steps.{digest_under};
 ghost use Rattle.election.specs.Queries.{plain, agreed_on, plain_algorithm, method_of, candidates_of, elect_with, NoneNamed};
 ghost use Rattle.election.specs.Steps.{ElectedFor};
 
 use address::WIDTH;
-use answers::Answer;
-use refusals::{FLOW_LENGTH, NONE_ELIGIBLE, READY_TOO_LONG, TAG_RESERVED};
+use answers::Elected;
+use refusals::Refusal;
 
 // The most rows that a ready list may have.
 const MAX_READY: usize = 64;
@@ -41,10 +41,7 @@ pub fn plain_algorithm(settings: &[u32], tag: u32, in_use: u8) -> u8
 fn agreed_on(in_use: u8, number: u8) -> bool
     ensures { result ≡ agreed_on in_use number }
 {
-    if number == 0 {
-        return false;
-    }
-    in_use == number
+    number != 0 && in_use == number
 }
 
 // The octets of S or of G that a digest is taken over: all of them by flow, and otherwise none.
@@ -67,6 +64,7 @@ struct Means {
 
 // How a query is answered, whose kind has the number `number`, or 0: where the routes agree on that number, by the weights of its flow, S and G being whole words of four octets, and the number is told; else as
 // the plain query for its tag.
+#[tactic(auto, unfolding(answers::specs::Steps::digest_under))]
 fn method(
     t: &[u32],
     settings: &[u32],
@@ -110,39 +108,39 @@ pub fn elect_query(
     group: &[u8],
     tag: u32,
     ready: &[u32],
-) -> Answer
+) -> Result<Elected, Refusal>
     requires { Valid t.now × ValidSettings settings.now × (right ≡ true → (length source.now % 4 ≡ 0) × (length group.now % 4 ≡ 0)) }
-    ensures { ElectedFor (settings_in settings.now) number right (source.now ++ group.now) (table_in t.now).esi (table_in t.now).entries tag (ready_in ready.now) result }
+    ensures { ElectedFor (settings_in settings.now) number right (source.now ++ group.now) (table_in t.now).esi (table_in t.now).entries tag (ready_in ready.now) (answer_of result) }
 {
     if tags::is_reserved(tag) {
-        return answers::refusal(TAG_RESERVED);
+        return Err(Refusal::TagReserved);
     }
     if MAX_READY < ready.len() / WIDTH {
-        return answers::refusal(READY_TOO_LONG);
+        return Err(Refusal::ReadyTooLong);
     }
     if !right {
-        return answers::refusal(FLOW_LENGTH);
+        return Err(Refusal::FlowLength);
     }
     let u = agreement::in_use(t, settings);
     let set = ready::candidate_set(t, u.ac_df, ready);
     if set == 0 {
-        return answers::refusal(NONE_ELIGIBLE);
+        return Err(Refusal::NoneEligible);
     }
     let n = places::count(set);
     let m = method(t, settings, number, source, group, tag, u.algorithm);
     let at = winner::elected_place(t, set, n, m.algorithm, tag, m.digest);
-    answers::named(t, m.told, set, n, at)
+    Ok(answers::named(t, m.told, set, n, at))
 }
 
 // Elects the Designated Forwarder for a tag: 10 for tag 0 or 4,294,967,295, 11 for a ready list over 64 rows of five words, 12 where no route is eligible.
 // N is the number of the ones of the candidate set. An address that is named is that of a candidate; under algorithms 1 to 3 no candidate is better, and it is
 // the only such.
-pub fn elect(t: &[u32], settings: &[u32], tag: u32, ready: &[u32]) -> Answer
+pub fn elect(t: &[u32], settings: &[u32], tag: u32, ready: &[u32]) -> Result<Elected, Refusal>
     requires { Valid t.now × ValidSettings settings.now }
-    ensures answer { result ≡ elect_with (settings_in settings.now) plain (table_in t.now).esi (table_in t.now).entries tag (ready_in ready.now) }
-    ensures counted { result.n ≡ ones result.candidates }
-    ensures none_named { NoneNamed (settings_in settings.now) plain (table_in t.now).entries tag (ready_in ready.now) result }
-    ensures forwarder { result.number ≡ 0 → Forwarder (method_of (settings_in settings.now) plain (table_in t.now).esi (table_in t.now).entries tag) (candidates_of (settings_in settings.now) (table_in t.now).entries (ready_in ready.now)) tag result }
+    ensures answer { answer_of result ≡ elect_with (settings_in settings.now) plain (table_in t.now).esi (table_in t.now).entries tag (ready_in ready.now) }
+    ensures counted { (answer_of result).n ≡ ones (answer_of result).candidates }
+    ensures none_named { NoneNamed (settings_in settings.now) plain (table_in t.now).entries tag (ready_in ready.now) (answer_of result) }
+    ensures forwarder { (answer_of result).number ≡ 0 → Forwarder (method_of (settings_in settings.now) plain (table_in t.now).esi (table_in t.now).entries tag) (candidates_of (settings_in settings.now) (table_in t.now).entries (ready_in ready.now)) tag (answer_of result) }
 {
     let none: [u8; 0] = [0; 0];
     elect_query(t, settings, 0, true, &none, &none, tag, ready)

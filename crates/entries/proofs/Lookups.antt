@@ -13,10 +13,9 @@ use Rattle.address.proofs.Laws.{words-four, key_row, key-injective, length-addre
 use Rattle.keyed.specs.Keyed.{Rising, rank}
 use Rattle.keyed.proofs.Keyed as keyed
 use Rattle.rows.specs.Rows.{rows_in, row_key, key_order, found_in, Within, looks_between, looks_for}
-use Rattle.rows.specs.declared.Order.{Order}
-use Rattle.rows.specs.declared.Order.TheVariants.{Equal}
-use Rattle.rows.specs.declared.Found.{Found}
-use Rattle.rows.specs.declared.Found.TheVariants.{At, Missing}
+use Rattle.std.specs.declared.cmp.Ordering.{Ordering}
+use Rattle.std.specs.declared.cmp.Ordering.TheVariants.{Equal}
+use Rattle.std.specs.Prelude.{Result, Ok, Err}
 use Rattle.rows.proofs.Looks.{few-looks, few-between, for-at, for-middle, left-none}
 use Rattle.rows.proofs.Compared.{Words, words-part, is_same, order_same, first_difference, order-parts}
 use Rattle.rows.proofs.Outcomes.{within_all}
@@ -67,7 +66,7 @@ module _ (b row : List ℕ) (n : ℕ) (a : List ℕ) (h : Valid b) (z : n ≡ le
       let there : take (length row) (drop at b) ≡ (get_or es i no_entry).address = rw (e, width) (address-row b h i (omega arith)) in
       ap₂ key_order (ap row_key there ∙ key_row _) key
 
-  pub found-told : (f : Found) → f ≡ found_in row_key (row_key row) (rows_in (length row) n b) → f ≡ found_in entry_key (address_key a) es
+  pub found-told : (f : Result ℕ ℕ) → f ≡ found_in row_key (row_key row) (rows_in (length row) n b) → f ≡ found_in entry_key (address_key a) es
   found-told f p = p ∙ ap₂ (λ (m : ℕ) (l : List (List ℕ)). found_in row_key m l) key rows_are ∙ found_rows (address_key a) es
 
   pub between-told : (d : ℕ) → d ≡ length (looks_between (row_key row) (map row_key (rows_in (length row) n b)) 0 n)
@@ -89,7 +88,7 @@ first-none es m first h =
     for-middle m (map entry_key es) first (omega (arith, n)) ∙ ap (looks_between m (map entry_key es) 0) n
 
 pub first-hit : (es : List Entry) (m first : ℕ) → Rising entry_key 1 es → first < length es → entry_key (get_or es first no_entry) ≡ m
-    → (At first ≡ found_in entry_key m es) × (1 ≡ length (looks_for first m (map entry_key es)))
+    → (Ok first ≡ found_in entry_key m es) × (1 ≡ length (looks_for first m (map entry_key es)))
 first-hit es m first r h q =
     let ks = map entry_key es in
     let n : length ks ≡ length es = length-map es entry_key in
@@ -105,7 +104,7 @@ pub record Beside (b : List ℕ) (i : ℕ) (row : List ℕ) : Type 0 where
   pub row_words : Words row
 
 -- how the entry stands to the address that the row names
-abbrev asked : List ℕ → ℕ → List ℕ → Order
+abbrev asked : List ℕ → ℕ → List ℕ → Ordering
 asked b i row = key_order (entry_key (get_or (table_in b).entries i no_entry)) (address_key (listed_in row))
 
 -- the family and the first word are compared, then the three others
@@ -148,7 +147,7 @@ module _ {b : List ℕ} {i : ℕ} {row : List ℕ} (k : Beside b i row) where
   pub tail-fits : i * 5 + 2 + length (take 3 (drop 2 row)) ≤ length b
   tail-fits = omega (arith, length-tail, inside)
 
-  module _ (head : Order) (told : head ≡ key_order (row_key (take (length (take 2 row)) (drop (i * 5) b))) (row_key (take 2 row))) where
+  module _ (head : Ordering) (told : head ≡ key_order (row_key (take (length (take 2 row)) (drop (i * 5) b))) (row_key (take 2 row))) where
     plain : head ≡ key_order (row_key first) (row_key (take 2 row))
     plain = told ∙ ap (λ (n : ℕ). key_order (row_key (take n (drop (i * 5) b))) (row_key (take 2 row))) length-head
 
@@ -158,7 +157,7 @@ module _ {b : List ℕ} {i : ℕ} {row : List ℕ} (k : Beside b i row) where
     by_parts low n w e =
         ap₂ (λ (x y : List ℕ). key_order (row_key x) (row_key y)) parts e
         ∙ order-parts first rest (take 2 row) low (length_rest ∙ sym n) (words-part 3 (i * 5 + 2) b k.words) w
-        ∙ ap (λ (x : Order). first_difference x (key_order (row_key rest) (row_key low))) (sym plain)
+        ∙ ap (λ (x : Ordering). first_difference x (key_order (row_key rest) (row_key low))) (sym plain)
 
     by-four : get_or row 0 0 ≡ 4 → asked b i row ≡ first_difference head (key_order (row_key rest) (row_key (0 ∷ 0 ∷ 0 ∷ [])))
     by-four f = by_parts (0 ∷ 0 ∷ 0 ∷ []) refl (words-part 3 0 (0 ∷ 0 ∷ 0 ∷ 0 ∷ []) (words-four 0 0 0 0 (omega arith) (omega arith) (omega arith) (omega arith))) (parts-four row k.five f)
@@ -167,7 +166,7 @@ module _ {b : List ℕ} {i : ℕ} {row : List ℕ} (k : Beside b i row) where
     by-six f = by_parts (take 3 (drop 2 row)) length-tail (words-part 3 2 row k.row_words) (parts-six row k.five f)
 
     -- a difference of the first part decides
-    pub head-decides : ((x : Order) → first_difference head x ≡ head) → NamesAddress row → head ≡ asked b i row
+    pub head-decides : ((x : Ordering) → first_difference head x ≡ head) → NamesAddress row → head ≡ asked b i row
     head-decides d = ⊎_elim (λ f. sym (by-four f ∙ d _)) (λ f. sym (by-six f ∙ d _))
 
     -- where there is none, the family is the entry's
@@ -191,25 +190,25 @@ module _ {b : List ℕ} {i : ℕ} {row : List ℕ} (k : Beside b i row) where
       pub four_same : get_or row 0 0 ≡ 4 → Equal ≡ asked b i row
       four_same f =
           let zeros : rest ≡ 0 ∷ 0 ∷ 0 ∷ [] = sym (ap (drop 2) parts ∙ drop_at first rest 2 length-first) ∙ tail-four there is_address (family ∙ f) in
-          sym (by-four f ∙ ap (λ (x : Order). first_difference x (key_order (row_key rest) (row_key (0 ∷ 0 ∷ 0 ∷ [])))) same ∙ order_same (ap row_key zeros))
+          sym (by-four f ∙ ap (λ (x : Ordering). first_difference x (key_order (row_key rest) (row_key (0 ∷ 0 ∷ 0 ∷ [])))) same ∙ order_same (ap row_key zeros))
 
       -- an IPv6 row: the second part decides
-      pub six-rest : (get_or row 0 0 ≡ 4 → ⊥) → (x : Order) → x ≡ key_order (row_key (take (length (take 3 (drop 2 row))) (drop (i * 5 + 2) b))) (row_key (take 3 (drop 2 row))) → x ≡ asked b i row
+      pub six-rest : (get_or row 0 0 ≡ 4 → ⊥) → (x : Ordering) → x ≡ key_order (row_key (take (length (take 3 (drop 2 row))) (drop (i * 5 + 2) b))) (row_key (take 3 (drop 2 row))) → x ≡ asked b i row
       six-rest m x e =
           ⊎_elim
           (λ f. absurd (m f))
           (λ f.
           e
           ∙ ap (λ (n : ℕ). key_order (row_key (take n (drop (i * 5 + 2) b))) (row_key (take 3 (drop 2 row)))) length-tail
-          ∙ sym (by-six f ∙ ap (λ (y : Order). first_difference y (key_order (row_key rest) (row_key (take 3 (drop 2 row))))) same))
+          ∙ sym (by-six f ∙ ap (λ (y : Ordering). first_difference y (key_order (row_key rest) (row_key (take 3 (drop 2 row))))) same))
           names
 
 -- a place where something would stand is none where it stands
-pub missing_at : {i j : ℕ} → Missing i ≡ At j → ⊥
+pub missing_at : {i j : ℕ} → Err i ≡ Ok j → ⊥
 missing_at e = let z : ◌≡◌ {A = ℕ} 0 1 = cc in omega arith
 
 -- A ROW OF ANOTHER FAMILY names address zero, which is below every entry
-pub stranger : (b row : List ℕ) → Valid b → (get_or row 0 0 ≡ 4 → ⊥) → (get_or row 0 0 ≡ 6 → ⊥) → Missing 0 ≡ found_in entry_key (address_key (listed_in row)) (table_in b).entries
+pub stranger : (b row : List ℕ) → Valid b → (get_or row 0 0 ≡ 4 → ⊥) → (get_or row 0 0 ≡ 6 → ⊥) → Err 0 ≡ found_in entry_key (address_key (listed_in row)) (table_in b).entries
 stranger b row h m n =
     let es = (table_in b).entries in
     let k = address_key (listed_in row) in
@@ -222,7 +221,7 @@ stranger b row h m n =
     look_none entry_key k es 1 no_entry h.sound.rising 0 lowest below
 
 -- A ROW THAT NAMES NO ADDRESS is missing at 0
-pub stranger_missing : (b row : List ℕ) → Valid b → (NamesAddress row → ⊥) → found_in entry_key (address_key (listed_in row)) (table_in b).entries ≡ Missing 0
+pub stranger_missing : (b row : List ℕ) → Valid b → (NamesAddress row → ⊥) → found_in entry_key (address_key (listed_in row)) (table_in b).entries ≡ Err 0
 stranger_missing b row h s = sym (stranger b row h (λ f. s (inl f)) (λ f. s (inr f)))
 
 -- what a lookup answers without a look at the place that is proposed

@@ -4,15 +4,16 @@
 ghost use Rattle.std.specs.Prelude.{◌≡◌, [], ◌∷◌, map, ℕ, ◌≤◌, ◌<◌, length, get_or, set};
 ghost use Rattle.keyed.specs.Keyed.{spliced, without_at};
 ghost use Rattle.rows.specs.Rows.{key_order, found_in, looks_between, looks_for};
-ghost use Rattle.rows.specs.declared.Found.TheVariants.{At};
-ghost use Rattle.rows.specs.declared.Order.TheVariants.{Equal};
+ghost use Rattle.std.specs.Prelude.{Ok};
+ghost use Rattle.std.specs.declared.cmp.Ordering.TheVariants.{Equal};
 ghost use Rattle.address.specs.Address.{address_row, address_key, listed_in, NamesAddress};
 ghost use Rattle.layout.specs.Table.{entry_key, no_entry, table_of};
 ghost use Rattle.layout.specs.Words.{entry_in, words_of, table_in, Valid};
 
 use address::{Address, Family};
 use layout::{ATTRIBUTES, COUNT};
-use rows::{Found, Lookup, Order};
+use rows::Lookup;
+use std::cmp::Ordering;
 
 // How many words of an address's row, the family and the first of the address, are compared before the others.
 const HEAD: usize = 2;
@@ -54,7 +55,7 @@ fn listed(row: &[u32]) -> Address
 // How the entry at a place stands to the address that a row of a ready list names, where the row's family is 4 or 6; no entry equals a row of another family. The family and the
 // first word decide, or all five words: in an IPv4 row the words after the first don't count, and an IPv4 entry has zeros there.
 #[tactic(auto, using(crate::proofs::Lookups::second_part))]
-fn order_at(t: &[u32], at: usize, row: &[u32]) -> Order
+fn order_at(t: &[u32], at: usize, row: &[u32]) -> Ordering
     requires { Valid t.now × (at < length (table_in t.now).entries) × (length row.now ≡ 5) }
     ensures order { NamesAddress row.now → result ≡ key_order (entry_key (get_or (table_in t.now).entries at no_entry)) (address_key (listed_in row.now)) }
     ensures names { result ≡ Equal → NamesAddress row.now }
@@ -62,15 +63,15 @@ fn order_at(t: &[u32], at: usize, row: &[u32]) -> Order
     let start = at * address::WIDTH;
     let head = rows::compare(t, start, &row[0..HEAD]);
     match head {
-        Order::Less => Order::Less,
-        Order::Equal => {
+        Ordering::Less => Ordering::Less,
+        Ordering::Equal => {
             if row[0] == 4 {
-                return Order::Equal;
+                return Ordering::Equal;
             }
             let behind = start + HEAD;
             rows::compare(t, behind, &row[HEAD..address::WIDTH])
         }
-        Order::Greater => Order::Greater,
+        Ordering::Greater => Ordering::Greater,
     }
 }
 
@@ -88,10 +89,10 @@ fn search(t: &[u32], address: Address) -> Lookup
 
 // Goes on from a look at the place `first` for the address of a row of a ready list, with the outcome `order`. Where the family is neither 4 nor 6 the
 // row names no address that could stand, and the next look is where this one was.
-fn after_first(t: &[u32], first: usize, order: Order, row: &[u32]) -> Lookup
+fn after_first(t: &[u32], first: usize, order: Ordering, row: &[u32]) -> Lookup
     requires { Valid t.now × (first < length (table_in t.now).entries) × (length row.now ≡ 5) × (NamesAddress row.now → order ≡ key_order (entry_key (get_or (table_in t.now).entries first no_entry)) (address_key (listed_in row.now))) }
     ensures found { NamesAddress row.now → result.found ≡ found_in entry_key (address_key (listed_in row.now)) (table_in t.now).entries }
-    ensures no_address { (NamesAddress row.now → ⊥) → (i : ℕ) → result.found ≡ At i → ⊥ }
+    ensures no_address { (NamesAddress row.now → ⊥) → (i : ℕ) → result.found ≡ Ok i → ⊥ }
     ensures looks { NamesAddress row.now → result.looks ≡ length (looks_for first (address_key (listed_in row.now)) (map entry_key (table_in t.now).entries)) }
     ensures one_look { (NamesAddress row.now → ⊥) → result.looks ≡ 1 }
     ensures few { result.looks ≤ 7 }
@@ -104,7 +105,7 @@ fn after_first(t: &[u32], first: usize, order: Order, row: &[u32]) -> Lookup
         return rows::after_look(t, n, first, order, &key);
     }
     Lookup {
-        found: Found::Missing(first),
+        found: Err(first),
         looks: 1,
     }
 }
@@ -116,7 +117,7 @@ fn after_first(t: &[u32], first: usize, order: Order, row: &[u32]) -> Lookup
 pub fn lookup(t: &[u32], first: usize, row: &[u32]) -> Lookup
     requires { Valid t.now × (length row.now ≡ 5) }
     ensures found { NamesAddress row.now → result.found ≡ found_in entry_key (address_key (listed_in row.now)) (table_in t.now).entries }
-    ensures no_address { (NamesAddress row.now → ⊥) → (i : ℕ) → result.found ≡ At i → ⊥ }
+    ensures no_address { (NamesAddress row.now → ⊥) → (i : ℕ) → result.found ≡ Ok i → ⊥ }
     ensures looks { (first < length (table_in t.now).entries → NamesAddress row.now) → result.looks ≡ length (looks_for first (address_key (listed_in row.now)) (map entry_key (table_in t.now).entries)) }
     ensures one_look { (NamesAddress row.now → ⊥) → first < length (table_in t.now).entries → result.looks ≡ 1 }
     ensures few { result.looks ≤ 7 }
@@ -128,16 +129,16 @@ pub fn lookup(t: &[u32], first: usize, row: &[u32]) -> Lookup
     }
     let order = order_at(t, first, row);
     match order {
-        Order::Equal => Lookup {
-            found: Found::At(first),
+        Ordering::Equal => Lookup {
+            found: Ok(first),
             looks: 1,
         },
         _ => after_first(t, first, order, row),
     }
 }
 
-// Where an address stands, or would stand.
-pub fn find(t: &[u32], address: Address) -> Found
+// Where an address stands: `Ok` with its place, or `Err` with the place at which it would stand.
+pub fn find(t: &[u32], address: Address) -> Result<usize, usize>
     requires { Valid t.now }
     ensures { result ≡ found_in entry_key (address_key (address_row address)) (table_in t.now).entries }
 {

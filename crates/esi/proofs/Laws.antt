@@ -1,11 +1,11 @@
 -- Laws on reserved identifiers and on the text of an identifier, for the proofs of this crate and of those above.
 -- Assumes nothing.
-use Prim.Native.Nat.{ℕ, ◌+◌, ◌<◌, ◌≤◌}
+use Prim.Native.Nat.{ℕ, ◌+◌, ◌*◌, ◌<◌, ◌≤◌}
 use native.Mathlib.Omega.{arith}
 use mathlib.Core.Path.{◌≡◌, refl, sym, ap, ◌∙◌}
 use mathlib.Core.Bool.{Bool, true, false, cond, not, ◌||◌, and-eq-true_iff, and-false}
 use mathlib.Core.List.{List, ◌++◌}
-use lib.ListN.{length, set, take, drop, replicate}
+use lib.ListN.{length, get_or, set, take, drop, replicate}
 use lib.Seq.{take_all, take_at}
 use lib.Dec.{eqb}
 use borrow.Author.Tests.{not-false, eq-eqb, ne_eqb, eqb-true, lt-ltb, le-ltb}
@@ -13,10 +13,9 @@ use Rattle.lists.proofs.Bools.{or_left}
 use Rattle.lists.proofs.Checks.{refused-at, refused_none}
 use Rattle.octets.specs.Octets.{all_are}
 use Rattle.octets.proofs.Laws.{Octets, octets-replicate, front-next, front-all}
-use Rattle.esi.specs.declared.TextRead.{TextRead}
 use Rattle.esi.specs.Reserved.{reserved}
-use Rattle.esi.specs.Text.{first_wrong, right_in, FirstFault, well_formed, esi_in, accepted, refused, read_text, character_at, text_of, lower_case, write_text_number, text_written}
-use Rattle.esi.proofs.Places.{Right, length-text, get_d-text, esi-octets, text-esi, text-right, esi-text, first-fault, right-each, each_right}
+use Rattle.esi.specs.Text.{TextRead, value_of_digit, first_wrong, right_in, FirstFault, well_formed, esi_in, accepted, refused, read_text, character_at, text_of, lower_case, write_text_number, text_written}
+use Rattle.esi.proofs.Places.{Right, high_value, low_value, length-text, get_d-text, esi-octets, text-esi, text-right, esi-text, first-fault, right-each, each_right}
 
 -- ---- reserved identifiers
 
@@ -38,6 +37,9 @@ module _ (s : List ℕ) where
   pub length-not-reserved : reserved s ≡ false → length s ≡ 10
   unfolding reserved
   length-not-reserved h = eqb-true (length s) 10 (not-false _ (or_left _ (all_are 0 s || all_are 255 s) h))
+
+-- what the code of the test goes by
+pub ruleset reserving = (reserved-length, reserved-all-zero, reserved-not-zero)
 
 -- ---- the three answers of reading
 
@@ -77,6 +79,17 @@ module _ (t : List ℕ) where
       let n = well-formed-length h in
       let e = eqb-true (first_wrong t) 29 ((and-eq-true_iff (eqb (length t) 29) (eqb (first_wrong t) 29)).0 h).1 in
       right-each t ((rw (take_all 29 t (omega arith)) at e) ∙ sym n) i (omega arith)
+
+  -- the two digits of an octet
+  module _ (w : well_formed t ≡ true) (k : ℕ) (l : k < 10) where
+    pub high_digit : value_of_digit (get_or t (3 * k) 0) < 16
+    high_digit = high_value t (well-formed-right w) k l
+
+    pub low_digit : value_of_digit (get_or t (3 * k + 1) 0) < 16
+    low_digit = low_value t (well-formed-right w) k l
+
+-- what the code of an octet goes by
+pub ruleset octet_digits = (well-formed-length, high_digit, low_digit)
 
 -- what holds of each of the three answers holds of the answer
 pub read-cases : (t : List ℕ) (P : TextRead → Type 0) → (well_formed t ≡ false → P (refused 13 (first_wrong t))) → (well_formed t ≡ true → reserved (esi_in t) ≡ true → P (refused 4 0))

@@ -49,6 +49,9 @@ pub text-low : (s : List ℕ) (i : ℕ) → i % 3 ≡ 1 → character_at s i ≡
 unfolding character_at
 text-low s i e = rw (ne_eqb (i % 3) 2 (omega arith), ne_eqb (i % 3) 0 (omega arith))
 
+-- what the code of a character goes by
+pub ruleset character_kinds = (text-colon, text-high, text-low)
+
 by_kind : (P : Type 0) (i : ℕ) → (i % 3 ≡ 0 → P) → (i % 3 ≡ 1 → P) → (i % 3 ≡ 2 → P) → P
 by_kind P i high low colon = go (i % 3) (mod-lt i (omega arith)) high low colon
   where

@@ -10,8 +10,10 @@
 --   well_formed t        == whether t is 29 characters and none is wrong
 --   octet_at t k         == octet k of the identifier that t says
 --   esi_in t             == the identifier that t says
+--   TextRead            == what reading a text gives: 0, offset 0 and the identifier, or a refusal number, an offset and ten zeros
 --   accepted s          == the answer with the identifier s
 --   refused n p         == the refusal n, with the offset p and ten zeros
+--   told_text r         == the answer that the reader's result r is
 --   read_text t          == the answer for the text t; with 13 its offset is that of the first fault (document 02, M-103), else it is 0
 --   character_at s i          == the character at offset i of the text of the identifier s
 --   text_of s            == the text of the identifier s
@@ -19,12 +21,13 @@
 --   lower_case t         == t with each such digit in lower case
 --   write_text_number n s == the number answered for writing the identifier s into a buffer of n characters
 --   text_written d s     == the buffer d after that
-use Rattle.std.specs.Prelude.{ℕ, suc, ◌+◌, ◌-◌, ◌*◌, ◌/◌, ◌%◌, ◌<◌, ◌≡◌, Bool, true, false, cond, not, ◌&&◌, List, [], ◌∷◌, ◌++◌, map, length, get_or, take, drop, replicate, leb, ltb, eqb}
+use Rattle.std.specs.Prelude.{ℕ, suc, ◌+◌, ◌-◌, ◌*◌, ◌/◌, ◌%◌, ◌<◌, ◌≡◌, Bool, true, false, cond, not, ◌&&◌, List, [], ◌∷◌, ◌++◌, map, length, get_or, take, drop, replicate, leb, ltb, eqb, Result, Ok, Err}
 use Rattle.lists.specs.Checks.{first_refusal}
 use Rattle.lists.specs.Lists.{tabulate}
 use Rattle.octets.specs.Octets.{hex_digit}
 use Rattle.refusals.specs.Refusals.{esi_text, esi_reserved, buffer_short}
-use Rattle.esi.specs.declared.TextRead.{TextRead}
+use Rattle.refusals.specs.Numbers.{refusal_number}
+use Rattle.refusals.specs.declared.RefusalAt.{RefusalAt}
 use Rattle.esi.specs.Reserved.{reserved}
 
 abbrev pub between : ℕ → ℕ → ℕ → Bool
@@ -60,11 +63,20 @@ octet_at t k = value_of_digit (get_or t (3 * k) 0) * 16 + value_of_digit (get_or
 unfoldable pub esi_in : List ℕ → List ℕ
 esi_in t = tabulate 10 (octet_at t)
 
+pub record TextRead : Type 0 where
+  pub number : ℕ
+  pub offset : ℕ
+  pub esi : List ℕ
+
 abbrev pub accepted : List ℕ → TextRead
 accepted s = record { number = 0; offset = 0; esi = s }
 
 abbrev pub refused : ℕ → ℕ → TextRead
 refused n p = record { number = n; offset = p; esi = replicate 10 0 }
+
+abbrev pub told_text : Result (List ℕ) RefusalAt → TextRead
+told_text (Ok s) = accepted s
+told_text (Err r) = refused (refusal_number r.refusal) r.offset
 
 unfoldable pub read_text : List ℕ → TextRead
 read_text t = cond (not (well_formed t)) (refused esi_text (first_wrong t)) (cond (reserved (esi_in t)) (refused esi_reserved 0) (accepted (esi_in t)))

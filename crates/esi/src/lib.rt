@@ -12,16 +12,17 @@ ghost use Rattle.esi.specs.Text.{
   lower_case,
   octet_at,
   read_text,
-  refused,
   right_at,
   character_at,
   text_of,
   text_written,
+  told_text,
   well_formed,
   write_text_number,
 };
+ghost use Rattle.refusals.specs.Numbers.{number_of};
 
-use refusals::{BUFFER_SHORT, ESI_RESERVED, ESI_TEXT};
+use refusals::{Refusal, RefusalAt};
 
 // How many octets an identifier has.
 const ESI_LENGTH: usize = 10;
@@ -32,16 +33,8 @@ const TEXT_LENGTH: usize = 29;
 // The character between two pairs of digits.
 const COLON: u8 = b':';
 
-// What reading a text gives: 0, offset 0 and the identifier, or a refusal number, an offset and ten zeros. With 13 the offset is that of the
-// first fault, with 4 it is 0.
-#[derive(Clone, Copy)]
-pub struct TextRead {
-    pub number: u8,
-    pub offset: usize,
-    pub esi: [u8; 10],
-}
-
 // Whether an identifier is reserved: ten octets 00, ten octets FF, or not ten octets at all.
+#[tactic(auto, using(crate::proofs::Laws::reserving))]
 pub fn is_reserved(esi: &[u8]) -> bool
     ensures { result ≡ reserved esi.now }
 {
@@ -68,6 +61,7 @@ fn digit_value(c: u8) -> u8
 }
 
 // Whether the character c may stand at offset i of a text: a colon at every third offset, a digit elsewhere.
+#[tactic(auto, unfolding(crate::specs::Text::right_at))]
 fn right_at(i: usize, c: u8) -> bool
     ensures { result ≡ right_at i c }
 {
@@ -82,20 +76,16 @@ fn right_at(i: usize, c: u8) -> bool
 fn first_wrong(text: &[u8]) -> usize
     ensures { result ≡ first_wrong text.now }
 {
-    let mut i = 0;
-    while i < TEXT_LENGTH {
-        if text.len() <= i {
+    for i in 0..TEXT_LENGTH {
+        if text.len() <= i || !right_at(i, text[i]) {
             return i;
         }
-        if !right_at(i, text[i]) {
-            return i;
-        }
-        i += 1;
     }
-    i
+    TEXT_LENGTH
 }
 
 // Octet k of the identifier that a text says.
+#[tactic(auto, using(crate::proofs::Laws::octet_digits), unfolding(crate::specs::Text::octet_at))]
 fn octet_at(text: &[u8], k: usize) -> u8
     requires { (well_formed text.now ≡ true) × (k < 10) }
     ensures { result ≡ octet_at text.now k }
@@ -109,53 +99,40 @@ fn esi_in(text: &[u8]) -> [u8; 10]
     ensures { result ≡ esi_in text.now }
 {
     let mut esi = [0; 10];
-    let mut k = 0;
-    while k < ESI_LENGTH {
+    for k in 0..ESI_LENGTH {
         esi[k] = octet_at(text, k);
-        k += 1;
     }
     esi
 }
 
-// A refusal at an offset, with ten zeros for the identifier.
-fn refusal(number: u8, offset: usize) -> TextRead
-    ensures { result ≡ refused number offset }
-{
-    TextRead {
-        number: number,
-        offset: offset,
-        esi: [0; 10],
-    }
-}
-
 // Reads the text of an identifier: 13 unless it is 29 characters, ten pairs of digits with a colon between pairs; then 4 for a
-// reserved identifier; else 0 and the identifier. With 13 comes the offset of the first fault: every character before it is right, and the one at
+// reserved identifier; else the identifier. With 13 comes the offset of the first fault: every character before it is right, and the one at
 // it is wrong, or missing, or one too many; else the offset is 0. The text of what was read is the text itself, in lower case.
 #[tactic(auto, using(crate::proofs::Laws::reading), unfolding(crate::specs::Text::read_text, crate::specs::Text::well_formed))]
-pub fn read_text(text: &[u8]) -> TextRead
-    ensures answer { result ≡ read_text text.now }
-    ensures fault { result.number ≡ 13 → FirstFault text.now result.offset }
-    ensures round_trip { result.number ≡ 0 → text_of result.esi ≡ lower_case text.now }
+pub fn read_text(text: &[u8]) -> Result<[u8; 10], RefusalAt>
+    ensures answer { told_text result ≡ read_text text.now }
+    ensures fault { (told_text result).number ≡ 13 → FirstFault text.now (told_text result).offset }
+    ensures round_trip { (told_text result).number ≡ 0 → text_of (told_text result).esi ≡ lower_case text.now }
 {
     let wrong = first_wrong(text);
-    if text.len() != TEXT_LENGTH {
-        return refusal(ESI_TEXT, wrong);
-    }
-    if wrong != TEXT_LENGTH {
-        return refusal(ESI_TEXT, wrong);
+    if text.len() != TEXT_LENGTH || wrong != TEXT_LENGTH {
+        return Err(RefusalAt {
+            refusal: Refusal::EsiText,
+            offset: wrong,
+        });
     }
     let esi = esi_in(text);
     if is_reserved(&esi) {
-        return refusal(ESI_RESERVED, 0);
+        return Err(RefusalAt {
+            refusal: Refusal::EsiReserved,
+            offset: 0,
+        });
     }
-    TextRead {
-        number: 0,
-        offset: 0,
-        esi: esi,
-    }
+    Ok(esi)
 }
 
 // The character at offset i of the text of an identifier.
+#[tactic(auto, using(crate::proofs::Places::character_kinds))]
 fn text_at(esi: &[u8], i: usize) -> u8
     requires { (length esi.now ≡ 10) × (i < 29) }
     ensures { result ≡ character_at esi.now i }
@@ -170,24 +147,22 @@ fn text_at(esi: &[u8], i: usize) -> u8
     octets::hex_digit(octet % 16)
 }
 
-// Writes the text of an identifier, in lower case, into the first 29 characters of a buffer, and answers 0. A reserved identifier is
+// Writes the text of an identifier, in lower case, into the first 29 characters of a buffer. A reserved identifier is
 // refused with 4, then a buffer under 29 with 14; a refusal changes nothing. Reading what was written gives the identifier back.
 #[tactic(auto, using(crate::proofs::Laws::writing))]
-pub fn write_text(buf: &mut [u8], esi: &[u8]) -> u8
-    ensures number { result ≡ write_text_number (length buf.old) esi.now }
+pub fn write_text(buf: &mut [u8], esi: &[u8]) -> Result<(), Refusal>
+    ensures number { number_of result ≡ write_text_number (length buf.old) esi.now }
     ensures buffer { buf.new ≡ text_written buf.old esi.now }
-    ensures round_trip { result ≡ 0 → read_text (take 29 buf.new) ≡ accepted esi.now }
+    ensures round_trip { number_of result ≡ 0 → read_text (take 29 buf.new) ≡ accepted esi.now }
 {
     if is_reserved(esi) {
-        return ESI_RESERVED;
+        return Err(Refusal::EsiReserved);
     }
     if buf.len() < TEXT_LENGTH {
-        return BUFFER_SHORT;
+        return Err(Refusal::BufferShort);
     }
-    let mut offset = 0;
-    while offset < TEXT_LENGTH {
+    for offset in 0..TEXT_LENGTH {
         buf[offset] = text_at(esi, offset);
-        offset += 1;
     }
-    0
+    Ok(())
 }

@@ -4,6 +4,7 @@
 ghost use Rattle.segment_state.specs.State.{ValidSegment};
 
 use address::{Address, Family};
+use refusals::RefusalAt;
 use segment::WORDS;
 
 // 10.0.0.0
@@ -34,8 +35,7 @@ pub struct Table {
 // What an announcement answers, and the table after it.
 #[derive(Clone, Copy)]
 pub struct Change {
-    pub number: u8,
-    pub offset: usize,
+    pub answer: Result<(), RefusalAt>,
     pub table: Table,
 }
 
@@ -54,7 +54,7 @@ pub fn route_of(n: u8) -> [u8; 25] {
     let esi = identifier();
     let distinguisher = [0u8; 8];
     let mut octets = [0u8; 25];
-    route_fields::write(&mut octets, &distinguisher, &esi, router(n));
+    let _ = route_fields::write(&mut octets, &distinguisher, &esi, router(n));
     octets
 }
 
@@ -65,13 +65,20 @@ pub fn announce(t: Table, n: u8, algorithm: u8, preference: u16, dp: bool) -> Ch
 {
     let octets = route_of(n);
     let mut community = [0u8; 8];
-    community::write(&mut community, algorithm, false, dp, preference);
+    let _ = community::write(&mut community, algorithm, false, dp, preference);
     let mut words = t.words;
-    let told = segment::announce(&mut words, &octets, &community);
+    let answer = segment::announce(&mut words, &octets, &community);
     Change {
-        number: told.number,
-        offset: told.offset,
+        answer,
         table: Table { words: words },
+    }
+}
+
+// The number of an announcement's answer: 0 where it is not refused.
+pub fn number(c: Change) -> u64 {
+    match c.answer {
+        Ok(()) => 0,
+        Err(told) => told.refusal.number() as u64,
     }
 }
 
@@ -90,7 +97,7 @@ pub fn without(t: Table, n: u8) -> Table
     ensures { ValidSegment result.words }
 {
     let mut words = t.words;
-    segment::withdraw(&mut words, router(n));
+    let _ = segment::withdraw(&mut words, router(n));
     Table { words: words }
 }
 
@@ -100,9 +107,10 @@ pub fn elected(t: Table, tag: u32) -> u64
 {
     let none = [0u32; 1];
     let words = t.words;
-    let answer = segment::elect(&words, tag, &none[..0]);
-    let address = answer.address;
-    (address[0] % 256) as u64
+    match segment::elect(&words, tag, &none[..0]) {
+        Ok(e) => (e.address[0] % 256) as u64,
+        Err(_) => 0,
+    }
 }
 
 // The number that an election answers.
@@ -112,7 +120,7 @@ pub fn refusal(t: Table, tag: u32) -> u64
     let none = [0u32; 1];
     let words = t.words;
     let answer = segment::elect(&words, tag, &none[..0]);
-    answer.number as u64
+    refusals::number(&answer) as u64
 }
 
 // Highest-Preference,

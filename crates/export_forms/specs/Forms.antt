@@ -7,7 +7,7 @@ use Rattle.address.specs.declared.Address.{Address}
 use Rattle.address.specs.declared.Family.TheVariants.{V4, V6}
 use Rattle.circuit_layout.specs.declared.Scope.{Scope}
 use Rattle.circuit_layout.specs.declared.Scope.TheVariants.{Segment, Instance}
-use Rattle.answers.specs.declared.Answer as answers
+use Rattle.answers.specs.Answers as answers
 use Rattle.export_forms.specs.declared.Answer.{Answer}
 
 abbrev pub exported_answer : answers.Answer → Answer

@@ -2,10 +2,12 @@
 #![tactic(auto)]
 
 ghost use Rattle.std.specs.Prelude.{◌≡◌};
+ghost use Rattle.answers.specs.Answers.{answer_of};
 ghost use Rattle.export_forms.specs.Forms.{exported_answer, handed_in};
 
 use address::{Address, Family};
-use answers::Answer as Elected;
+use answers::Elected;
+use refusals::Refusal;
 
 // The answer of an election.
 #[repr(C)]
@@ -19,18 +21,19 @@ pub struct Answer {
     pub candidates: u64,
 }
 
-// The answer of an election, field by field.
-pub fn exported(a: Elected) -> Answer
-    ensures { result ≡ exported_answer a }
+// The answer of an election, field by field: a refusal number comes with zeros.
+pub fn exported(a: Result<Elected, Refusal>) -> Answer
+    ensures { result ≡ exported_answer (answer_of a) }
 {
-    let words = a.address;
+    let (number, e) = answers::told(a);
+    let address = e.address;
     Answer {
-        number: a.number,
-        family: a.family,
-        address: words,
-        algorithm: a.algorithm,
-        n: a.n,
-        candidates: a.candidates,
+        number,
+        family: e.family,
+        address,
+        algorithm: e.algorithm,
+        n: e.n,
+        candidates: e.candidates,
     }
 }
 

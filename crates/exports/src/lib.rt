@@ -41,7 +41,7 @@ pub extern "C" fn segment_fresh(s: &mut [u32; WORDS], esi: &[u8]) -> u8
     let made = segment::fresh(esi);
     let words = made.state;
     *s = words;
-    made.number
+    refusals::number(&made.answer)
 }
 
 // `segment::announce`.
@@ -51,10 +51,15 @@ pub extern "C" fn segment_announce(s: &mut [u32], route: &[u8], communities: &[u
     ensures answer { SegmentTold (announced (segment_in s.old).table route.now communities.now) (segment_in s.old).settings result.number result.offset s.new }
     ensures kept { ValidSegment s.new }
 {
-    let told = segment::announce(s, route, communities);
-    Verdict {
-        number: told.number,
-        offset: told.offset,
+    match segment::announce(s, route, communities) {
+        Ok(()) => Verdict {
+            number: 0,
+            offset: 0,
+        },
+        Err(told) => Verdict {
+            number: told.refusal.number(),
+            offset: told.offset,
+        },
     }
 }
 
@@ -73,7 +78,8 @@ pub extern "C" fn segment_withdraw(
     ensures kept { ValidSegment s.new }
 {
     let address = export_forms::handed_in(v6, w0, w1, w2, w3);
-    segment::withdraw(s, address)
+    let answer = segment::withdraw(s, address);
+    refusals::number(&answer)
 }
 
 // `segment::elect`.
@@ -93,7 +99,7 @@ pub extern "C" fn segment_set_ranges(s: &mut [u32], run: &[u32]) -> u8
     ensures answer { SetTold (ranges_given (segment_in s.old).settings run.now) (segment_in s.old).table result s.new }
     ensures kept { ValidSegment s.new }
 {
-    segment::set_ranges(s, run)
+    refusals::number(&segment::set_ranges(s, run))
 }
 
 // `segment::returning`.
@@ -113,10 +119,16 @@ pub extern "C" fn segment_returning(
     ensures { result ≡ sent_of (returning_with (segment_in s.now).settings (segment_in s.now).table.entries (address_row (handed_in v6 w0 w1 w2 w3)) algorithm preference dp) }
 {
     let address = export_forms::handed_in(v6, w0, w1, w2, w3);
-    let told = segment::returning(s, address, algorithm, preference, dp);
-    Sent {
-        number: told.number,
-        preference: told.preference,
-        dp: told.dp,
+    match segment::returning(s, address, algorithm, preference, dp) {
+        Ok(sent) => Sent {
+            number: 0,
+            preference: sent.preference,
+            dp: sent.dp,
+        },
+        Err(refusal) => Sent {
+            number: refusal.number(),
+            preference: 0,
+            dp: false,
+        },
     }
 }

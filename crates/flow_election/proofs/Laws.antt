@@ -16,3 +16,6 @@ both-whole-words m n h =
     let p = (and-eq-true_iff (is_address_length m) (eqb m n)).0 h in
     let w = whole_words m p.0 in
     (w, rw (eqb-true m n p.1) at w)
+
+-- this law, by a name that a function of the code can cite
+pub ruleset right_words = (both-whole-words)

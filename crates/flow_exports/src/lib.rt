@@ -18,7 +18,7 @@ pub extern "C" fn segment_set_flow_algorithms(s: &mut [u32], source_group: u8, a
     ensures answer { SetTold (numbers_set (segment_in s.old).settings source_group any_source) (segment_in s.old).table result s.new }
     ensures kept { ValidSegment s.new }
 {
-    segment::set_flow_algorithms(s, source_group, any_source)
+    refusals::number(&segment::set_flow_algorithms(s, source_group, any_source))
 }
 
 // `segment::elect_source_group`.

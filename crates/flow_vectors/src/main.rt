@@ -5,8 +5,9 @@
 ghost use Rattle.std.specs.Prelude.{IfOk};
 ghost use Rattle.segment_state.specs.State.{ValidSegment};
 
-use answers::Answer;
+use answers::Elected;
 use example_tables::{Table, empty_table, with};
+use refusals::Refusal;
 use std::io;
 use vector_lines::show_number;
 
@@ -32,18 +33,13 @@ fn all_carry(t: Table, algorithm: u8) -> Table
 fn show(
     rt: &impl Print,
     name: &[u8],
-    answer: Answer,
+    answer: Result<Elected, Refusal>,
     wanted: u64,
     wanted_algorithm: u64,
 ) -> io::Result<()> {
-    let address = answer.address;
-    show_number(rt, name, (address[0] % 256) as u64, wanted)?;
-    show_number(
-        rt,
-        b"  algorithm",
-        answer.algorithm as u64,
-        wanted_algorithm,
-    )
+    let (_, e) = answers::told(answer);
+    show_number(rt, name, (e.address[0] % 256) as u64, wanted)?;
+    show_number(rt, b"  algorithm", e.algorithm as u64, wanted_algorithm)
 }
 
 // A plain query.
@@ -128,7 +124,7 @@ fn show_refusal(
 {
     let none: [u32; 0] = [0; 0];
     let answer = segment::elect_source_group(t, s, g, tag, &none);
-    show_number(rt, name, answer.number as u64, wanted)
+    show_number(rt, name, refusals::number(&answer) as u64, wanted)
 }
 
 // The operator sets two numbers.
@@ -143,8 +139,8 @@ fn set(
     requires { ValidSegment t.old }
     ensures { ValidSegment t.new }
 {
-    let number = segment::set_flow_algorithms(t, source_group, any_source);
-    show_number(rt, name, number as u64, wanted)
+    let set = segment::set_flow_algorithms(t, source_group, any_source);
+    show_number(rt, name, refusals::number(&set) as u64, wanted)
 }
 
 // Numbers that may be set, while the routes stand, and such that are refused: the old ones are kept.

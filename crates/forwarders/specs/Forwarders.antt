@@ -6,7 +6,7 @@
 use Rattle.std.specs.Prelude.{ℕ, ◌≡◌, List}
 use Rattle.address.specs.Address.{family_of, address_words}
 use Rattle.segment_state.specs.State.{Segment}
-use Rattle.answers.specs.declared.Answer.{Answer}
+use Rattle.answers.specs.Answers.{Answer}
 use Rattle.election.specs.Queries.{Query, elect_with}
 use Rattle.circuit_election.specs.Over.{elect_over}
 

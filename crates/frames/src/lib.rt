@@ -2,7 +2,7 @@
 // program"). Only the frame is judged here; which kinds and lengths are good is for those who read the payload.
 #![tactic(auto)]
 
-ghost use Rattle.std.specs.Prelude.{◌≡◌, ◌+◌, ◌*◌, ◌<◌, length};
+ghost use Rattle.std.specs.Prelude.{◌≡◌, ◌+◌, ◌<◌, length};
 ghost use Rattle.frames.specs.Frames.{frame_at};
 
 // The first octet of the mark,
@@ -28,20 +28,6 @@ pub enum Frame {
     Cut,
     // A whole record: its kind, the position of its payload, and the payload's length. The next record stands at start + len.
     Whole { kind: u8, start: usize, len: usize },
-}
-
-// The number that two octets make, the first of them the high one.
-fn together(a: u8, b: u8) -> u16
-    ensures { result ≡ a * 256 + b }
-{
-    (a as u16) * 256 + (b as u16)
-}
-
-// The length that a length octet says.
-fn length_in(octet: u8) -> usize
-    ensures { result ≡ octet }
-{
-    octet as usize
 }
 
 // What stands at a position of s behind which there are fewer octets than a head has: nothing, or an octet of the mark that is there and wrong, which makes the record bad, or else a record that is cut.
@@ -76,10 +62,10 @@ pub fn frame_at(s: &[u8], at: usize) -> Frame
     if last < at {
         return part_at(s, at);
     }
-    if together(s[at + 1], s[at]) != MARK {
+    if u16::from_le_bytes([s[at], s[at + 1]]) != MARK {
         return Frame::Bad;
     }
-    let len = length_in(s[at + 3]);
+    let len = s[at + 3] as usize;
     if last - at < len {
         return Frame::Cut;
     }

@@ -3,19 +3,13 @@
 --   cell                   the table of the next states, looked up by state and event
 --   rows, columns          a number of a state, or an event, is one of the table's
 --   wrapped                what is wrapped to the later reading by the earlier is the difference modulo 2^32
---   due-wait, due-else     whether a reading is due, in DF_WAIT and elsewhere
---   driven-up, driven-else the machine after an event that starts the wait, and after another
---   ticked, unticked       the machine after a reading that is due, and after another
---   made, unmade-zero, unmade-long   the answer to a wait from 1 to 600, to 0 and to a longer one
 -- Assumes nothing.
-use Rattle.std.proofs.Common.{◌≡◌, ℕ, ◌+◌, ◌%◌, ◌^◌, ◌<◌, ◌≤◌, true, false, leb, List, [], ◌∷◌, map, get_or, refl, ap, ◌∙◌, arith, le-leb}
-use borrow.Author.Tests.{lt-leb}
+use Rattle.std.proofs.Common.{◌≡◌, ℕ, ◌+◌, ◌%◌, ◌^◌, ◌<◌, List, [], ◌∷◌, map, get_or, refl, ap, ◌∙◌, arith}
 use Rattle.fsm.specs.declared.State.{State}
 use Rattle.fsm.specs.declared.State.TheVariants.{Init, DfWait, DfCalc, DfDone}
 use Rattle.fsm.specs.declared.Event.{Event}
 use Rattle.fsm.specs.declared.Event.TheVariants.{EsUp, EsDown, VlanChange, RcvdEs, LostEs, DfTimer, Calculated}
-use Rattle.fsm.specs.declared.Machine.{Machine}
-use Rattle.fsm.specs.Machine.{state_number, event_number, in_state, next_state, starts, waited_of, due, in_init, made_of, drive_of, tick_of}
+use Rattle.fsm.specs.Machine.{state_number, event_number, next_state, waited_of}
 
 -- ---- the table
 abbrev pub states : List State
@@ -67,45 +61,3 @@ columns Calculated = omega arith
 pub wrapped : (now since r : ℕ) → r < 2 ^ 32 → since < 2 ^ 32 → (r + since) % 2 ^ 32 ≡ now → r ≡ waited_of now since
 unfolding waited_of
 wrapped now since r hr hs e = omega arith
-
--- ---- the calls
-pub due-wait : (m : Machine) (now r : ℕ) → m.state ≡ DfWait → r ≡ waited_of now m.since → leb m.wait r ≡ due m now
-unfolding due
-due-wait m now r e w = rw (e, w)
-
-pub due-else : (m : Machine) (now : ℕ) → in_state DfWait m.state ≡ false → false ≡ due m now
-unfolding due
-due-else m now e = rw e
-
-pub driven-up : (m : Machine) (e : Event) (now : ℕ) (t : State) → t ≡ next_state m.state e → starts m.state e ≡ true
-    → record { state = t; wait = m.wait; since = now } ≡ drive_of m e now
-unfolding drive_of
-driven-up m e now t n s = rw (n, s)
-
-pub driven-else : (m : Machine) (e : Event) (now : ℕ) (t : State) → t ≡ next_state m.state e → starts m.state e ≡ false
-    → record { state = t; wait = m.wait; since = m.since } ≡ drive_of m e now
-unfolding drive_of
-driven-else m e now t n s = rw (n, s)
-
-pub ticked : (m : Machine) (now : ℕ) → due m now ≡ true → drive_of m DfTimer now ≡ tick_of m now
-unfolding tick_of
-ticked m now e = rw e
-
-pub unticked : (m : Machine) (now : ℕ) → due m now ≡ false → m ≡ tick_of m now
-unfolding tick_of
-unticked m now e = rw e
-
-pub made : (w : ℕ) → (w ≡ 0 → ⊥) → w ≤ 600 → record { number = 0; machine = in_init w } ≡ made_of w
-unfolding made_of
-made w p h = rw (le-leb 1 w (one w p), le-leb w 600 h)
-  where
-    one : (w : ℕ) → (w ≡ 0 → ⊥) → 1 ≤ w
-    one w p = omega arith
-
-pub unmade-zero : (w : ℕ) → w ≡ 0 → record { number = 17; machine = in_init 0 } ≡ made_of w
-unfolding made_of
-unmade-zero w e = rw e
-
-pub unmade-long : (w : ℕ) → 600 < w → record { number = 17; machine = in_init 0 } ≡ made_of w
-unfolding made_of
-unmade-long w h = rw (lt-leb w 600 h, le-leb 1 w (omega arith))

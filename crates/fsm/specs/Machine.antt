@@ -8,17 +8,20 @@
 --   waited_of now since  == the time waited: the later reading minus the earlier, modulo 2^32
 --   due m now           == whether the clock reading yields DF_TIMER
 --   in_init w            == the machine in INIT with the wait w
+--   Answer               == the answer to making a machine, or to an event that is handed in as a number: 0 or a refusal's number, and the machine
+--   answered m r         == that answer for the result r, where on a refusal the machine is m
 --   made_of w            == the answer to making a machine with the wait w
 --   drive_of m e now     == the machine m after the event e, with the clock reading handed in
 --   tick_of m now        == the machine m after a clock reading alone
-use Rattle.std.specs.Prelude.{ℕ, ◌+◌, ◌-◌, ◌%◌, ◌^◌, Bool, cond, ◌&&◌, ◌==◌, nat_le}
+use Rattle.std.specs.Prelude.{ℕ, ◌+◌, ◌-◌, ◌%◌, ◌^◌, Bool, cond, ◌&&◌, ◌==◌, nat_le, Result, Ok, Err}
 use Rattle.refusals.specs.Refusals.{wait_out_of_range}
+use Rattle.refusals.specs.Numbers.{refusal_number}
+use Rattle.refusals.specs.declared.Refusal.{Refusal}
 use Rattle.fsm.specs.declared.State.{State}
 use Rattle.fsm.specs.declared.State.TheVariants.{Init, DfWait, DfCalc, DfDone}
 use Rattle.fsm.specs.declared.Event.{Event}
 use Rattle.fsm.specs.declared.Event.TheVariants.{EsUp, EsDown, VlanChange, RcvdEs, LostEs, DfTimer, Calculated}
 use Rattle.fsm.specs.declared.Machine.{Machine}
-use Rattle.fsm.specs.declared.Answer.{Answer}
 
 abbrev pub state_number : State → ℕ
 state_number Init = 0
@@ -64,6 +67,14 @@ due m now = in_state DfWait m.state && nat_le m.wait (waited_of now m.since)
 
 abbrev pub in_init : ℕ → Machine
 in_init w = record { state = Init; wait = w; since = 0 }
+
+pub record Answer : Type 0 where
+  pub number : ℕ
+  pub machine : Machine
+
+abbrev pub answered : Machine → Result Machine Refusal → Answer
+answered m (Ok n) = record { number = 0; machine = n }
+answered m (Err r) = record { number = refusal_number r; machine = m }
 
 -- 17 for a wait that is not 1 to 600
 unfoldable pub made_of : ℕ → Answer

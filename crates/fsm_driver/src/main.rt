@@ -6,41 +6,46 @@
 #![tactic(auto)]
 
 ghost use Rattle.std.specs.Prelude.{◌≡◌};
-ghost use Rattle.fsm_driver.specs.Items.{item_answer, item_octets};
+ghost use Rattle.fsm.specs.Machine.{answered};
+ghost use Rattle.fsm_driver.specs.Items.{item_stands, item_answer, item_octets};
 
-use fsm::{Answer, Machine};
+use fsm::Machine;
+use refusals::Refusal;
 use std::io;
 use std::io::{ErrorKind, Read};
 
 // The answer to an item.
 #[tactic(auto, unfolding(crate::specs::Items::item_answer))]
-fn item_answer(m: Machine, kind: u8, event: u8, number: u32) -> Answer
-    ensures { result ≡ item_answer m kind event number }
+fn item_answer(m: Machine, kind: u8, event: u8, number: u32) -> Result<Machine, Refusal>
+    ensures { answered (item_stands m kind) result ≡ item_answer m kind event number }
 {
-    if kind == 0 {
-        return fsm_numbers::drive_number(m, event, number);
+    match kind {
+        0 => fsm_numbers::drive_number(m, event, number),
+        1 => Ok(fsm::tick(m, number)),
+        _ => fsm::make(number),
     }
-    if kind == 1 {
-        return Answer {
-            number: 0,
-            machine: fsm::tick(m, number),
-        };
+}
+
+// The machine that stands where an item is refused.
+fn item_stands(m: Machine, kind: u8) -> Machine
+    ensures { result ≡ item_stands m kind }
+{
+    match kind {
+        0 | 1 => m,
+        _ => fsm::INITIAL,
     }
-    fsm::make(number)
 }
 
 // The ten octets that are written for an answer.
 #[tactic(auto, unfolding(octets::specs::Octets::octets_of, crate::specs::Items::item_octets))]
-fn octets_of(a: Answer) -> [u8; 10]
-    ensures { result ≡ item_octets a }
+fn octets_of(number: u8, m: Machine) -> [u8; 10]
+    ensures { result ≡ item_octets (record { number = number; machine = m }) }
 {
-    let m = a.machine;
-    let s = m.state;
     let w = octets::of_u32(m.wait);
     let t = octets::of_u32(m.since);
     [
-        a.number,
-        fsm::state_number(s),
+        number,
+        m.state.number(),
         w[0],
         w[1],
         w[2],
@@ -63,16 +68,16 @@ fn take_item(rt: &impl Print, input: &mut impl Read, m: Machine) -> io::Result<O
         };
     }
     let number = octets::u32_of(item[2], item[3], item[4], item[5]);
-    let a = item_answer(m, item[0], item[1], number);
-    rt.write_all(&octets_of(a))?;
-    Ok(Some(a.machine))
+    let answer = item_answer(m, item[0], item[1], number);
+    let next = answer.unwrap_or(item_stands(m, item[0]));
+    rt.write_all(&octets_of(refusals::number(&answer), next))?;
+    Ok(Some(next))
 }
 
 // A proved loop has to end, and nothing says that the input does: the loop counts its turns, up to a number that no run reaches.
 fn main(rt: HostRuntime) -> io::Result<()> {
     let mut input = rt.reader();
-    let first = fsm::make(0);
-    let mut m = first.machine;
+    let mut m = fsm::INITIAL;
     for _ in 0..u64::MAX {
         match take_item(&rt, &mut input, m)? {
             Some(next) => m = next,

@@ -41,10 +41,8 @@ fn crc_word(mixed: u32) -> u32
     ensures { result ≡ crc_bits 32 mixed }
 {
     let mut r = mixed;
-    let mut i: u32 = 0;
-    while i < 4 {
+    for _ in 0..4u32 {
         r = crc_step(r);
-        i += 1;
     }
     r
 }
@@ -56,10 +54,9 @@ fn crc_words(state: u32, s: &[u8]) -> u32
     ensures { result ≡ crc_over state s.now }
 {
     let mut r = state;
-    let mut i = 0;
-    while i + 3 < s.len() {
-        r = crc_word(r ^ octets::u32_of(s[i + 3], s[i + 2], s[i + 1], s[i]));
-        i += 4;
+    for i in 0..s.len() / 4 {
+        let word = u32::from_le_bytes([s[4 * i], s[4 * i + 1], s[4 * i + 2], s[4 * i + 3]]);
+        r = crc_word(r ^ word);
     }
     r
 }
@@ -69,10 +66,8 @@ fn crc_octets(state: u32, s: &[u8]) -> u32
     ensures { result ≡ crc_over state s.now }
 {
     let mut r = state;
-    let mut i = 0;
-    while i < s.len() {
-        r = crc_step(r ^ (s[i] as u32));
-        i += 1;
+    for octet in s {
+        r = crc_step(r ^ (*octet as u32));
     }
     r
 }
@@ -143,19 +138,15 @@ pub fn flow_digest(source: &[u8], group: &[u8], tag: u32, esi: [u8; 10]) -> u32
 {
     let mut r = ALL_ONES;
     let mut last: [u32; 4] = [0; 4];
-    let mut part = 0;
-    while part < 3 {
+    for part in 0..3 {
         if part == 2 {
             last = padded(r, tag, &esi);
             r = 0;
         }
         let n = part_len(part, source, group, &last);
-        let mut i = 0;
-        while i < n {
+        for i in 0..n {
             r = crc_word(r ^ part_word(part, i, source, group, &last));
-            i += 1;
         }
-        part += 1;
     }
     (r ^ ALL_ONES) % TOP_BIT
 }

@@ -4,7 +4,7 @@
 
 ghost use Rattle.segment_state.specs.State.{ValidSegment};
 
-use example_tables::{Table, announce, empty_table, refusal, with, without};
+use example_tables::{Table, announce, empty_table, number, refusal, with, without};
 use std::io;
 use vector_lines::show_number;
 
@@ -33,12 +33,12 @@ fn sixty_four() -> Table
 fn full_table(rt: &impl Print) -> io::Result<()> {
     let mut t = sixty_four();
     let refused = announce(t, 65, 0, 0, false);
-    show_number(rt, b"a 65th address", refused.number as u64, 8)?;
+    show_number(rt, b"a 65th address", number(refused), 8)?;
     let replaced = announce(t, 64, 0, 0, false);
     show_number(
         rt,
         b"an address that is present, at 64",
-        replaced.number as u64,
+        number(replaced),
         0,
     )?;
     t = without(t, 7);
@@ -46,7 +46,7 @@ fn full_table(rt: &impl Print) -> io::Result<()> {
     show_number(
         rt,
         b"a 65th address after one withdrawal",
-        accepted.number as u64,
+        number(accepted),
         0,
     )
 }

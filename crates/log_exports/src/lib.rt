@@ -20,9 +20,11 @@ pub extern "C" fn segment_write_log(s: &[u32], out: &mut [u8]) -> Logged
     ensures answer { (result.number ≡ log_number (segment_in s.now).table (length out.old)) × (result.length ≡ log_length (segment_in s.now).table (length out.old)) }
     ensures written { out.new ≡ log_written out.old (segment_in s.now).table }
 {
-    let told = compaction::write_segment(s, out);
-    Logged {
-        number: told.number,
-        length: told.length,
+    match compaction::write_segment(s, out) {
+        Ok(length) => Logged { number: 0, length },
+        Err(refusal) => Logged {
+            number: refusal.number(),
+            length: 0,
+        },
     }
 }

@@ -11,6 +11,7 @@ use lib.Dec.{eqb}
 use borrow.Author.Tests.{ne_eqb, eqb-true, le-ltb, lt-ltb, ltb-false}
 use Rattle.lists.proofs.Bools.{cond-by}
 use Rattle.lists.proofs.Checks.{refused-at, refused_none, passed}
+use Rattle.lists.proofs.Lists.{every_in}
 use Rattle.octets.specs.Octets.{stored}
 use Rattle.octets.proofs.Laws.{stored-fits, stored-front, stored-stored}
 use Rattle.address.specs.Address.{IsAddress, ipv4, ipv6, family_of}
@@ -19,7 +20,8 @@ use Rattle.esi.specs.Text.{text_of}
 use Rattle.esi.proofs.Places.{length-text}
 use Rattle.route.specs.Route.{total_of}
 use Rattle.route_fields.specs.Fields.{bits_of}
-use Rattle.layout.specs.Table.{Entry, no_entry, Table}
+use Rattle.layout.specs.Table.{Entry, no_entry, Table, AddressRight, WellFormed}
+use Rattle.layout.proofs.Words.{length-esi}
 use Rattle.frames.specs.Frames.{record_of}
 use Rattle.log_payloads.specs.Payload.{payload_of}
 use Rattle.log_payloads.proofs.Laws.{length-payload}
@@ -98,6 +100,19 @@ records-put i l k d x y at h e room q f =
     let m : length (a ++ rec) ≤ length (entry_records i l) = rw (← entries_next i l k h) (length_some i l (k + 1)) in
     let fits : at + length rec ≤ length d = omega (arith, e, room, m, length-append a rec) in
     f ∙ ap (λ (z : List ℕ). stored z at rec) q ∙ stored-stored d 33 a rec at (sym e) fits ∙ ap (stored d 33) (sym (entries_next i l k h))
+
+-- one entry more: its record has at most 49 octets, and there are at most 64 entries
+pub size-more : (t : Table) (k size x : ℕ) → WellFormed t → k < length t.entries → x ≡ record_length (family_of (get_or t.entries k no_entry).address) → size ≡ 33 + length (entry_records t.esi (take k t.entries))
+    → (x ≤ 49) × (k < 64) × (size + x ≡ 33 + length (entry_records t.esi (take (k + 1) t.entries)))
+size-more t k size x w h e q =
+    let is_address : IsAddress (get_or t.entries k no_entry).address = (every_in AddressRight t.entries k no_entry w.addresses h).0 in
+    (rw e (record-most _ is_address), omega (arith, h, w.short), omega (arith, q, e, length-next t.esi t.entries k (length-esi t w) h is_address))
+
+-- where its record ends
+pub entry-end : (i : List ℕ) (l : List Entry) (k n at : ℕ) → k < length l → n ≡ length (payload_of i (get_or l k no_entry)) → at ≡ 33 + length (entry_records i (take k l))
+    → at + (4 + n) ≡ 33 + length (entry_records i (take (k + 1) l))
+entry-end i l k n at h e q =
+    omega (arith, q, e, ap length (entries_next i l k h), length-append (entry_records i (take k l)) (record_of 1 (payload_of i (get_or l k no_entry))))
 
 -- WHAT THE WRITER ANSWERS: what it tells to have written lies within the buffer
 pub length-within : (t : Table) (n : ℕ) → log_length t n ≤ n

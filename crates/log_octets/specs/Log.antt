@@ -3,8 +3,10 @@
 --   log_of t            == the whole run
 --   log_number t n      == the number that the writer answers for a buffer of n octets: 4 for the table of a reserved identifier, 14 for too little room
 --   log_length t n      == how many octets it tells to have written: none with a refusal
+--   Logged              == what the writer tells: a number, 0 where it is not refused, and how many octets it has written
+--   logged_of a         == the same of its answer a
 --   log_written d t     == what a buffer holds after the writer, where it held d: only the octets of the run change
-use Rattle.std.specs.Prelude.{ℕ, cond, List, [], ◌∷◌, ◌++◌, length, drop, ltb, eqb}
+use Rattle.std.specs.Prelude.{ℕ, Result, Ok, Err, cond, List, [], ◌∷◌, ◌++◌, length, drop, ltb, eqb}
 use Rattle.lists.specs.Checks.{first_refusal}
 use Rattle.esi.specs.Reserved.{reserved}
 use Rattle.esi.specs.Text.{text_of}
@@ -12,6 +14,8 @@ use Rattle.layout.specs.Table.{Entry, Table}
 use Rattle.log_payloads.specs.Payload.{payload_of}
 use Rattle.frames.specs.Frames.{record_of}
 use Rattle.refusals.specs.Refusals.{esi_reserved, buffer_short}
+use Rattle.refusals.specs.Numbers.{refusal_number}
+use Rattle.refusals.specs.declared.Refusal.{Refusal}
 
 -- an announcement is a record of kind 1, and the text of an identifier one of kind 0
 unfoldable pub entry_records : List ℕ → List Entry → List ℕ
@@ -34,3 +38,11 @@ log_length t n = cond (eqb (log_number t n) 0) (length (log_of t)) 0
 
 unfoldable pub log_written : List ℕ → Table → List ℕ
 log_written d t = cond (eqb (log_number t (length d)) 0) (log_of t ++ drop (length (log_of t)) d) d
+
+pub record Logged : Type 0 where
+  pub number : ℕ
+  pub length : ℕ
+
+abbrev pub logged_of : Result ℕ Refusal → Logged
+logged_of (Ok n) = record { number = 0; length = n }
+logged_of (Err r) = record { number = refusal_number r; length = 0 }

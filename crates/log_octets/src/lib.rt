@@ -6,11 +6,11 @@ ghost use Rattle.octets.specs.Octets.{stored};
 ghost use Rattle.esi.specs.Reserved.{reserved};
 ghost use Rattle.layout.specs.Words.{table_in, Valid};
 ghost use Rattle.frames.specs.Frames.{record_of};
-ghost use Rattle.log_octets.specs.Log.{entry_records, log_of, log_number, log_length, log_written};
+ghost use Rattle.log_octets.specs.Log.{entry_records, log_of, log_number, log_length, log_written, logged_of};
 ghost use Rattle.log_octets.specs.Steps.{record_length};
 
 use frames::{HEAD_LENGTH, MARK_FIRST, MARK_SECOND};
-use refusals::{BUFFER_SHORT, ESI_RESERVED};
+use refusals::Refusal;
 
 // The kind of the first record, the text of an identifier,
 const TEXT: u8 = 0;
@@ -23,13 +23,6 @@ const TEXT_LENGTH: usize = 29;
 
 // and its record.
 const TEXT_RECORD: usize = 33;
-
-// What the writer answers: 0 and how many octets the run has, or a refusal number and 0.
-#[derive(Clone, Copy)]
-pub struct Logged {
-    pub number: u8,
-    pub length: usize,
-}
 
 // Puts a record at a position, where there is room for it.
 fn put_record(out: &mut [u8], at: usize, kind: u8, payload: &[u8])
@@ -60,10 +53,8 @@ fn log_length(t: &[u32]) -> usize
 {
     let n = layout::count(t);
     let mut length = TEXT_RECORD;
-    let mut i = 0;
-    while i < n {
+    for i in 0..n {
         length += record_length(layout::family_at(t, i));
-        i += 1;
     }
     length
 }
@@ -75,44 +66,33 @@ fn put_entries(t: &[u32], esi: [u8; 10], out: &mut [u8])
 {
     let n = layout::count(t);
     let mut at = TEXT_RECORD;
-    let mut i = 0;
-    while i < n {
+    for i in 0..n {
         let p = log_payloads::payload_at(t, esi, i);
         let octets = p.octets;
         let length = p.length;
         put_record(out, at, ANNOUNCEMENT, &octets[..length]);
         at += HEAD_LENGTH + length;
-        i += 1;
     }
 }
 
-// Writes a table out as a run of bench records, and answers 0 and how many octets that is: 4 for the table of a reserved identifier, 14 for a buffer that the run does not fit into; these
+// Writes a table out as a run of bench records, and answers how many octets that is. It is refused with 4 for the table of a reserved identifier, 14 for a buffer that the run does not fit into; these
 // leave the buffer as it is. Only the octets of the run change.
-pub fn write_log(t: &[u32], out: &mut [u8]) -> Logged
+pub fn write_log(t: &[u32], out: &mut [u8]) -> Result<usize, Refusal>
     requires { Valid t.now }
-    ensures answer { (result.number ≡ log_number (table_in t.now) (length out.old)) × (result.length ≡ log_length (table_in t.now) (length out.old)) }
+    ensures answer { ((logged_of result).number ≡ log_number (table_in t.now) (length out.old)) × ((logged_of result).length ≡ log_length (table_in t.now) (length out.old)) }
     ensures written { out.new ≡ log_written out.old (table_in t.now) }
 {
     let esi = owner::identifier(t);
     if esi::is_reserved(&esi) {
-        return Logged {
-            number: ESI_RESERVED,
-            length: 0,
-        };
+        return Err(Refusal::EsiReserved);
     }
     let length = log_length(t);
     if out.len() < length {
-        return Logged {
-            number: BUFFER_SHORT,
-            length: 0,
-        };
+        return Err(Refusal::BufferShort);
     }
     let mut text = [0u8; TEXT_LENGTH];
-    esi::write_text(&mut text, &esi);
+    let _ = esi::write_text(&mut text, &esi);
     put_record(out, 0, TEXT, &text);
     put_entries(t, esi, out);
-    Logged {
-        number: 0,
-        length: length,
-    }
+    Ok(length)
 }

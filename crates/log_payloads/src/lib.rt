@@ -61,7 +61,7 @@ fn community_at(t: &[u32], at: usize) -> [u8; COMMUNITY_LENGTH]
     let ac_df = kind % 2 == 1;
     let dp = standing % 2 == 1;
     let mut octets = [0u8; COMMUNITY_LENGTH];
-    community::write(&mut octets, algorithm, ac_df, dp, preference);
+    let _ = community::write(&mut octets, algorithm, ac_df, dp, preference);
     octets
 }
 
@@ -74,7 +74,7 @@ pub fn payload_at(t: &[u32], esi: [u8; 10], at: usize) -> Payload
     let community = community_at(t, at);
     let zeros = [0u8; 8];
     let mut octets = [0u8; MOST_PAYLOAD];
-    route_fields::write(&mut octets, &zeros, &esi, address);
+    let _ = route_fields::write(&mut octets, &zeros, &esi, address);
     let total = route::total(octets[20]);
     octets::store(&mut octets, total, &community);
     let length = total + COMMUNITY_LENGTH;

@@ -26,8 +26,7 @@ use Rattle.agreement.proofs.Laws.{usable-low}
 use Rattle.ready.specs.Ready.{eligible, candidates, candidate_set}
 use Rattle.winner.specs.Winner.{elected}
 use Rattle.winner.proofs.Orders.{better-any}
-use Rattle.answers.specs.Answers.{named_answer, Method, by_tag, answer_by}
-use Rattle.answers.specs.declared.Answer.{Answer}
+use Rattle.answers.specs.Answers.{Answer, named_answer, Method, by_tag, answer_by}
 use Rattle.election.specs.Queries.{Query, plain, by_source_group, by_any_source, number_for, agreed_on, plain_algorithm, method_for, method_of, candidates_of}
 use Rattle.returning.specs.Returning.{all_under, reference}
 

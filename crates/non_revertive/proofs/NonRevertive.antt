@@ -33,11 +33,9 @@ use Rattle.choice.proofs.Laws.{Unique, best_in-only}
 use Rattle.choice.proofs.Criteria.{unique-rising}
 use Rattle.winner.specs.Winner.{better}
 use Rattle.winner.proofs.Orders.{order-better}
-use Rattle.answers.specs.Answers.{refused_answer}
-use Rattle.answers.specs.declared.Answer.{Answer}
+use Rattle.answers.specs.Answers.{Answer, refused_answer}
 use Rattle.election.specs.Queries.{Query, right_lengths, elect_with}
-use Rattle.returning.specs.declared.Sent.{Sent}
-use Rattle.returning.specs.Returning.{reference, returning_with}
+use Rattle.returning.specs.Returning.{Sent, reference, returning_with}
 use Rattle.forwarders.specs.Forwarders.{elect_in, Names, SameForwarder}
 use Rattle.non_revertive.specs.NonRevertive.{ComesBack, announced_pair, NonRevertive}
 use Rattle.non_revertive.proofs.Members.{some-mem, mem-insert, reference-in, reference-top}

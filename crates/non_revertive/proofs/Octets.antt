@@ -10,7 +10,7 @@ use Rattle.community.proofs.Laws.{says-again}
 use Rattle.layout.specs.Table.{Entry, entry_of}
 use Rattle.route.specs.Route.{route_address}
 use Rattle.route_fields.specs.Fields.{route_octets}
-use Rattle.returning.specs.declared.Sent.{Sent}
+use Rattle.returning.specs.Returning.{Sent}
 
 module _ (d i a : List ℕ) (g : ℕ) (r : Sent) where
   abbrev pub route : List ℕ

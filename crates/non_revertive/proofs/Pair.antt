@@ -20,8 +20,7 @@ use Rattle.layout.proofs.Words.{Narrow}
 use Rattle.settings.specs.Settings.{Settings, any_range}
 use Rattle.choice.proofs.Laws.{Unique}
 use Rattle.winner.specs.Winner.{better}
-use Rattle.returning.specs.declared.Sent.{Sent}
-use Rattle.returning.specs.Returning.{all_under, reaches, sent, reference, fits, beside_reference, beside_both, returning_with}
+use Rattle.returning.specs.Returning.{Sent, all_under, reaches, sent, reference, fits, beside_reference, beside_both, returning_with}
 use Rattle.returning.proofs.Laws.{Beside, beside-both, beside-one, sent-beside}
 use Rattle.non_revertive.proofs.Members.{reference-in, reference-top}
 use Rattle.non_revertive.proofs.Losing.{lower-loses, higher-loses, clear-loses-highest, clear-loses-lowest, no_lower}

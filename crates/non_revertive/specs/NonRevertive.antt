@@ -15,8 +15,7 @@ use Rattle.route_fields.specs.Fields.{route_octets}
 use Rattle.table.specs.Table.{announced}
 use Rattle.segment_state.specs.State.{Segment}
 use Rattle.election.specs.Queries.{Query}
-use Rattle.returning.specs.declared.Sent.{Sent}
-use Rattle.returning.specs.Returning.{all_under}
+use Rattle.returning.specs.Returning.{Sent, all_under}
 use Rattle.forwarders.specs.Forwarders.{elect_in, Names, SameForwarder}
 
 pub record ComesBack (s : Segment) (a : List ℕ) (g : ℕ) : Type 0 where

@@ -95,11 +95,9 @@ pub fn put_hex(buf: &mut [u8], at: usize, s: [u8; 16]) -> usize
     ensures { Put buf.old at (hex s) result buf.new }
 {
     let mut text = [0u8; 32];
-    let mut i = 0;
-    while i < 16 {
-        text[2 * i] = octets::hex_digit(s[i] / 16);
-        text[2 * i + 1] = octets::hex_digit(s[i]);
-        i += 1;
+    for (i, octet) in s.iter().enumerate() {
+        text[2 * i] = octets::hex_digit(*octet / 16);
+        text[2 * i + 1] = octets::hex_digit(*octet);
     }
     lines::put_run(buf, at, &text)
 }

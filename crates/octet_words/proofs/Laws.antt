@@ -55,3 +55,17 @@ module _ (i v : ℕ) (s : List ℕ) where
       let two : i + 2 ≡ suc (suc i) = omega arith in
       let three : i + 3 ≡ suc (suc (suc i)) = omega arith in
       q ∙ rw (three, two, add-one) (sym (ap low_first (take-elements 4 i s h) ∙ low-four (get_or s i 0) (get_or s (suc i) 0) (get_or s (suc (suc i)) 0) (get_or s (suc (suc (suc i))) 0)))
+
+-- the same as std reads them
+pub low_two_at : (i : ℕ) (s : List ℕ) → i + 2 ≤ length s → low_first (take 2 (drop i s)) ≡ get_or s i 0 + get_or s (i + 1) 0 * 256
+unfolding low_first
+low_two_at i s h = rw add-one (ap low_first (take-elements 2 i s h) ∙ omega arith)
+
+pub low_four_at : (i : ℕ) (s : List ℕ) → i + 4 ≤ length s → low_first (take 4 (drop i s)) ≡ get_or s i 0 + get_or s (i + 1) 0 * 256 + get_or s (i + 2) 0 * 65536 + get_or s (i + 3) 0 * 16777216
+unfolding low_first
+low_four_at i s h =
+    let two : i + 2 ≡ suc (suc i) = omega arith in
+    let three : i + 3 ≡ suc (suc (suc i)) = omega arith in
+    rw (three, two, add-one) (ap low_first (take-elements 4 i s h) ∙ omega arith)
+
+pub ruleset low_four_octets = (low-four-octets)

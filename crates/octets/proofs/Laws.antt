@@ -6,17 +6,20 @@ use native.Mathlib.Nat.{div-one, mod-one, mod-lt, mod-eq_of_lt, le_refl, le_of_e
 use native.Mathlib.Numerals.{add-one}
 use native.Mathlib.Omega.{arith}
 use mathlib.Core.Path.{◌≡◌, refl, ap, ap₂, ◌∙◌, sym, subst}
-use mathlib.Core.Bool.{true, false, false≢true, and-eq-true_iff}
+use mathlib.Core.Bool.{Bool, cond, true, false, false≢true, and-eq-true_iff}
 use mathlib.Core.List.{List, [], ◌∷◌, ◌++◌, append_assoc, append-nil}
 use lib.ListN.{length, get_or, set, take, drop, replicate, length-append, length-drop, drop_of_length-le}
 use lib.Seq.{take_at, take-append_seam, take-length, length-take-le, drop-append-add, drop-drop, get_or-drop, length-paste, paste-suc, take_all, drop-cons}
 use lib.Arith.{mod-mul}
 use lib.Pow.{pow-add}
-use lib.Dec.{leb, eqb}
-use borrow.Author.Tests.{eq-eqb, ne_eqb, eqb-true, le-leb, lt-leb, leb-true}
-use Rattle.lists.proofs.Bools.{cond-by, not-true-false}
-use Rattle.lists.proofs.Lists.{all-each, all-not}
-use Rattle.octets.specs.Octets.{number_of, word_at, octets_of, same_numbers, all_are, stored}
+use lib.Dec.{leb, ltb, eqb}
+use borrow.Rule.Slice.PartMut.{put_mid}
+use borrow.Author.Tests.{eq-eqb, eqb-true, le-leb, lt-leb, leb-true}
+use Rattle.lists.proofs.Bools.{cond-by, true-false, not-true-false, not-false-true}
+use Rattle.lists.specs.Lists.{tabulate}
+use Rattle.lists.proofs.Lists.{all-each, all-not, get_d_tabulate}
+use Rattle.std.specs.Prelude.{◌↔◌}
+use Rattle.octets.specs.Octets.{number_of, word_at, octets_of, same_numbers, all_are, hex_digit, stored}
 
 -- ---- every element is an octet
 
@@ -70,9 +73,21 @@ pub all-are-each : (x : ℕ) (s : List ℕ) → ((i : ℕ) → i < length s → 
 unfolding all_are
 all-are-each x s h = all-each (λ y. eqb y x) s 0 (λ i k. eq-eqb _ _ (h i k))
 
-pub all-are-not : (x : ℕ) (s : List ℕ) (i : ℕ) → i < length s → (get_or s i 0 ≡ x → ⊥) → all_are x s ≡ false
+-- each of them, where all are x
+all-are-at : (x : ℕ) (s : List ℕ) (i : ℕ) → i < length s → all_are x s ≡ true → get_or s i 0 ≡ x
 unfolding all_are
-all-are-not x s i h n = all-not (λ y. eqb y x) s i 0 h (ne_eqb _ _ n)
+all-are-at x s i h t = eqb-true _ _ (not-false-true (λ f. true-false t (all-not (λ y. eqb y x) s i 0 h f)))
+
+-- a test that is true exactly where every octet is x
+pub all_are_when : (b : Bool) (x : ℕ) (s : List ℕ) → (b ≡ true ↔ ((k : ℕ) → k < length s → get_or s k 0 ≡ x)) → b ≡ all_are x s
+all_are_when true x s h = sym (all-are-each x s (h.0 refl))
+all_are_when false x s h = sym (not-true-false (λ t. false≢true (h.1 (λ k l. all-are-at x s k l t))))
+
+-- ---- the sixteen hexadecimal digits, in a row
+
+pub digit_rows : (n : ℕ) → get_or (48 ∷ 49 ∷ 50 ∷ 51 ∷ 52 ∷ 53 ∷ 54 ∷ 55 ∷ 56 ∷ 57 ∷ 97 ∷ 98 ∷ 99 ∷ 100 ∷ 101 ∷ 102 ∷ []) (n % 16) 0 ≡ hex_digit n
+unfolding hex_digit tabulate
+digit_rows n = get_d_tabulate 16 (λ d. cond (ltb d 10) (48 + d) (87 + d)) (n % 16) 0 (mod-lt n (omega arith))
 
 -- ---- numbers from and to octets
 
@@ -112,17 +127,9 @@ pub number-four : (a b c d : ℕ) → number_of (a ∷ b ∷ c ∷ d ∷ []) ≡
 unfolding number_of
 number-four a b c d = omega arith
 
-pub number-two : (a b : ℕ) → number_of (a ∷ b ∷ []) ≡ a * 256 + b
-unfolding number_of
-number-two a b = omega arith
-
 pub four-octets : (v : ℕ) → octets_of 4 v ≡ v / 16777216 % 256 ∷ v / 65536 % 256 ∷ v / 256 % 256 ∷ v % 256 ∷ []
 unfolding octets_of
 four-octets v = rw (div-one v)
-
-pub two-octets : (v : ℕ) → octets_of 2 v ≡ v / 256 % 256 ∷ v % 256 ∷ []
-unfolding octets_of
-two-octets v = rw (div-one v)
 
 -- ---- a store into a buffer
 
@@ -133,6 +140,12 @@ stored-fits d at s h = rw (le-leb (at + length s) (length d) h)
 pub stored-not : (d : List ℕ) (at : ℕ) (s : List ℕ) → length d < at + length s → stored d at s ≡ d
 unfolding stored
 stored-not d at s h = rw (lt-leb (at + length s) (length d) h)
+
+-- a part of the buffer written over
+pub stored_mid : (d : List ℕ) (at k : ℕ) (s e : List ℕ) → at + length s ≤ length d → k ≡ length s → e ≡ s → put_mid at k d e ≡ stored d at s
+stored_mid d at k s e h n q = sym (stored-fits d at s h ∙ rw (n, q, append_assoc, drop-drop) refl)
+
+pub ruleset stores = (stored-not, stored_mid)
 
 pub length-stored : (d : List ℕ) (at : ℕ) (s : List ℕ) → length (stored d at s) ≡ length d
 unfolding stored

@@ -18,7 +18,7 @@ use Rattle.tags.specs.Tags.{reserved_tag}
 use Rattle.settings.specs.Settings.{Settings}
 use Rattle.segment_state.specs.State.{Segment}
 use Rattle.ready.specs.Ready.{eligible, candidates, candidate_set}
-use Rattle.answers.specs.declared.Answer.{Answer}
+use Rattle.answers.specs.Answers.{Answer}
 use Rattle.answers.proofs.Laws.{none-by, numbers-by}
 use Rattle.agreement.specs.Agreement.{in_use_with}
 use Rattle.election.specs.Queries.{Query, right_lengths, method_of, candidates_of}

@@ -11,7 +11,7 @@ use mathlib.Core.List.{List, [], Memᴰ, Permᴰ}
 use Rattle.layout.specs.Table.{Entry}
 use Rattle.tags.specs.Tags.{reserved_tag}
 use Rattle.segment_state.specs.State.{Segment}
-use Rattle.answers.specs.declared.Answer.{Answer}
+use Rattle.answers.specs.Answers.{Answer}
 use Rattle.election.specs.Queries.{Query, right_lengths, candidates_of}
 use Rattle.demand3.specs.Calls.{Call}
 use Rattle.demand3.specs.Journal.{held, settings_set}

@@ -2,12 +2,13 @@
 #![tactic(auto)]
 
 ghost use Rattle.std.specs.Prelude.{◌≡◌, ◌++◌, length, take, replicate};
+ghost use Rattle.refusals.specs.Numbers.{number_of};
 ghost use Rattle.octets.specs.Octets.{same_numbers};
 ghost use Rattle.layout.specs.Words.{identifier_words, table_in, Octets, Valid};
 ghost use Rattle.owner.specs.Given.{Given};
 
 use layout::ESI;
-use refusals::ESI_RESERVED;
+use refusals::Refusal;
 
 // Writes an identifier of ten octets into its words.
 pub fn put_identifier(t: &mut [u32], esi: &[u8])
@@ -22,15 +23,15 @@ pub fn put_identifier(t: &mut [u32], esi: &[u8])
 
 // Gives the words of an empty table, all zeros, to an identifier. For a reserved one, or one that is not ten octets, 4, and the zeros stay: the table of the all-zero
 // identifier.
-pub fn give(t: &mut [u32], esi: &[u8]) -> u8
+pub fn give(t: &mut [u32], esi: &[u8]) -> Result<(), Refusal>
     requires { t.old ≡ replicate 388 0 }
-    ensures { Given esi.now result t.new }
+    ensures { Given esi.now (number_of result) t.new }
 {
     if esi::is_reserved(esi) {
-        return ESI_RESERVED;
+        return Err(Refusal::EsiReserved);
     }
     put_identifier(t, esi);
-    0
+    Ok(())
 }
 
 // The identifier that a table belongs to.

@@ -39,10 +39,10 @@ pub fn address_at(s: &[u8], at: usize, v6: bool) -> Address
         let w3 = word_at(s, at + 12);
         return Address {
             family: Family::V6,
-            w0: w0,
-            w1: w1,
-            w2: w2,
-            w3: w3,
+            w0,
+            w1,
+            w2,
+            w3,
         };
     }
     let w = word_at(s, at);
@@ -62,11 +62,9 @@ pub fn put_rows(ready: &mut [u32], s: &[u8], v6: bool)
 {
     let each = size(v6);
     let n = s.len() / each;
-    let mut i = 0;
-    while i < n {
+    for i in 0..n {
         let a = address_at(s, i * each, v6);
         let row = address::row(a);
         gaps::insert(ready, i, i, &row);
-        i += 1;
     }
 }

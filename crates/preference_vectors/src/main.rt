@@ -115,15 +115,25 @@ fn ties(rt: &impl Print) -> io::Result<()> {
     )
 }
 
+// The preference after a step that is not refused.
+fn after_step(preference: u16, step: i32) -> u16 {
+    bandwidth::add_step(preference, step).unwrap_or(0)
+}
+
 // Section 4.1 (f): half of the bandwidth is lost, and the preference goes from 500 to 100. The sum is what the router takes as its
 // administrative preference; the link is mended, and the same step up gives 500 back.
 fn bandwidth(rt: &impl Print) -> io::Result<()> {
-    let lost = bandwidth::add_step(500, -400);
-    let lowered = lost.preference;
+    let lowered = after_step(500, -400);
     show_number(rt, b"4.1 (f): 500 lowered by 400", lowered as u64, 100)?;
     let vacant = without(first_segment(HIGHEST), 1);
     let words = vacant.words;
-    let sent = segment::returning(&words, example_tables::router(1), HIGHEST, lowered, false);
+    let sent = segment::returning(
+        &words,
+        example_tables::router(1),
+        HIGHEST,
+        lowered,
+        false,
+    ).unwrap_or_default();
     show_pair(
         rt,
         b"4.1 (f): vES1, Highest, PE1 sends",
@@ -139,8 +149,8 @@ fn bandwidth(rt: &impl Print) -> io::Result<()> {
         elected(low, 1),
         2,
     )?;
-    let mended = bandwidth::add_step(lowered, 400);
-    let high = with(low, 1, HIGHEST, mended.preference, false);
+    let mended = after_step(lowered, 400);
+    let high = with(low, 1, HIGHEST, mended, false);
     show_number(
         rt,
         b"4.1 (f): vES1, Highest, PE1 raised by 400",
@@ -151,12 +161,12 @@ fn bandwidth(rt: &impl Print) -> io::Result<()> {
 
 // A step that stops short is not taken back by the same step up; one that is too long is refused.
 fn steps(rt: &impl Print) -> io::Result<()> {
-    let low = bandwidth::add_step(300, -400);
-    let again = bandwidth::add_step(low.preference, 400);
-    show_number(rt, b"300 lowered by 400", low.preference as u64, 0)?;
-    show_number(rt, b"and raised by 400", again.preference as u64, 400)?;
-    let long = bandwidth::add_step(500, -65536);
-    show_number(rt, b"a step of -65536", long.number as u64, 19)
+    let low = after_step(300, -400);
+    let again = after_step(low, 400);
+    show_number(rt, b"300 lowered by 400", low as u64, 0)?;
+    show_number(rt, b"and raised by 400", again as u64, 400)?;
+    let long = refusals::number(&bandwidth::add_step(500, -65536));
+    show_number(rt, b"a step of -65536", long as u64, 19)
 }
 
 fn main(rt: HostRuntime) -> io::Result<()> {

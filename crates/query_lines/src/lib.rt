@@ -2,10 +2,12 @@
 #![tactic(auto)]
 
 ghost use Rattle.std.specs.Prelude.{◌+◌, ◌≤◌, length};
+ghost use Rattle.answers.specs.Answers.{answer_of};
 ghost use Rattle.lines.specs.Lines.{Put};
 ghost use Rattle.answer_lines.specs.AnswerLines.{address_text, elected_line, query_line, Written};
 
-use answers::Answer;
+use answers::Elected;
+use refusals::Refusal;
 
 // Puts an address: IPv4 dotted, IPv6 as 32 hexadecimal digits.
 #[tactic(auto, using(crate::proofs::Laws::text_hex, crate::proofs::Laws::text_dotted))]
@@ -33,16 +35,13 @@ fn put_elected(out: &mut [u8], at: usize, family: u8, address: [u32; 4], n: u32)
 }
 
 // Puts the line of an election's answer.
-pub fn put_answer(out: &mut [u8], at: usize, r: Answer) -> usize
+#[tactic(auto, using(crate::proofs::Laws::line_refused, crate::proofs::Laws::line_elected))]
+pub fn put_answer(out: &mut [u8], at: usize, r: Result<Elected, Refusal>) -> usize
     requires { at + 48 ≤ length out.old }
-    ensures { Written out.old at (query_line r) result out.new }
+    ensures { Written out.old at (query_line (answer_of r)) result out.new }
 {
-    let number = r.number;
-    if number != 0 {
-        return answer_lines::put_line(out, at, b'q', number);
+    match r {
+        Ok(e) => put_elected(out, at, e.family, e.address, e.n),
+        Err(refusal) => answer_lines::put_line(out, at, b'q', refusal.number()),
     }
-    let family = r.family;
-    let address = r.address;
-    let n = r.n;
-    put_elected(out, at, family, address, n)
 }

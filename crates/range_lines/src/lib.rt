@@ -16,8 +16,8 @@ pub fn set(rt: &impl Print, name: &[u8], t: &mut [u32], run: &[u32], wanted: u64
     requires { ValidSegment t.old }
     ensures { ValidSegment t.new }
 {
-    let number = segment::set_ranges(t, run);
-    show_number(rt, name, number as u64, wanted)
+    let set = segment::set_ranges(t, run);
+    show_number(rt, name, refusals::number(&set) as u64, wanted)
 }
 
 // Prints the router that is elected for a tag, and the algorithm that the answer tells, beside what they should be.
@@ -32,13 +32,7 @@ pub fn show(
     requires { ValidSegment t.now }
 {
     let none: [u32; 0] = [0; 0];
-    let answer = segment::elect(t, tag, &none);
-    let address = answer.address;
-    show_number(rt, name, (address[0] % 256) as u64, wanted)?;
-    show_number(
-        rt,
-        b"  algorithm",
-        answer.algorithm as u64,
-        wanted_algorithm,
-    )
+    let (_, e) = answers::told(segment::elect(t, tag, &none));
+    show_number(rt, name, (e.address[0] % 256) as u64, wanted)?;
+    show_number(rt, b"  algorithm", e.algorithm as u64, wanted_algorithm)
 }

@@ -21,7 +21,13 @@ fn show_sent(
 ) -> io::Result<()>
     requires { ValidSegment t.now }
 {
-    let sent = segment::returning(t, example_tables::router(3), HIGHEST, preference, true);
+    let sent = segment::returning(
+        t,
+        example_tables::router(3),
+        HIGHEST,
+        preference,
+        true,
+    ).unwrap_or_default();
     show_pair(rt, name, sent.preference, sent.dp, wanted, wanted_dp)
 }
 
@@ -74,7 +80,7 @@ fn fails(rt: &impl Print) -> io::Result<Table>
 {
     let all = second_segment(HIGHEST, true);
     let mut t = all.words;
-    segment::set_ranges(&mut t, &[2, 2, DOWN]);
+    let _ = segment::set_ranges(&mut t, &[2, 2, DOWN]);
     show_two(rt, b"4.3: tag 1", b"4.3: tag 2", &t, 3)?;
     Ok(without(Table { words: t }, 3))
 }

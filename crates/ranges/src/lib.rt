@@ -4,9 +4,10 @@
 
 ghost use Rattle.std.specs.Prelude.{◌≡◌, true, not, ◌&&◌, [], ◌+◌, ◌*◌, ◌/◌, ◌≤◌, ◌<◌, eqb, length, get_or, drop};
 ghost use Rattle.lists.specs.Lists.{all};
+ghost use Rattle.refusals.specs.Numbers.{number_of};
 ghost use Rattle.ranges.specs.Ranges.{range_right, overlap, disjoint, ranges_of, may_be_ranges, ranges_set, ranges_words, ranges_in, ValidRanges, RangesTold};
 
-use refusals::RANGES_WRONG;
+use refusals::Refusal;
 
 // How many words the ranges have: their number, and three for each place.
 pub const WORDS: usize = 49;
@@ -70,13 +71,10 @@ fn apart(run: &[u32], i: usize) -> bool
     requires { i < length run.now / 3 }
     ensures { result ≡ all (λ q. not (overlap (get_or (ranges_of run.now) i []) q)) (drop (i + 1) (ranges_of run.now)) }
 {
-    let n = run.len() / WIDTH;
-    let mut j = i + 1;
-    while j < n {
+    for j in i + 1..run.len() / WIDTH {
         if overlaps(run, i, j) {
             return false;
         }
-        j += 1;
     }
     true
 }
@@ -85,16 +83,13 @@ fn apart(run: &[u32], i: usize) -> bool
 fn all_right(run: &[u32]) -> bool
     ensures { result ≡ (all range_right (ranges_of run.now) && disjoint (ranges_of run.now)) }
 {
-    let n = run.len() / WIDTH;
-    let mut i = 0;
-    while i < n {
+    for i in 0..run.len() / WIDTH {
         if !range_right(run, i) {
             return false;
         }
         if !apart(run, i) {
             return false;
         }
-        i += 1;
     }
     true
 }
@@ -127,27 +122,24 @@ fn put(b: &mut [u32], run: &[u32])
     requires { (length b.old ≡ 49) × (may_be_ranges run.now ≡ true) }
     ensures { b.new ≡ ranges_words (ranges_of run.now) }
 {
-    let n = run.len() / WIDTH;
-    b[0] = n as u32;
-    let mut i = 0;
-    while i < ROOM {
+    b[0] = (run.len() / WIDTH) as u32;
+    for i in 0..ROOM {
         b[i + 1] = number_at(run, i);
-        i += 1;
     }
 }
 
 // Sets the ranges that a run of numbers names, three to a range: the first tag, the last tag, and 2 or 3. They replace all; an empty run clears them. 20 for ranges that overlap, run
 // backwards or name a reserved tag, for more than 16, for a number that is neither 2 nor 3 and for a run that is no whole number of ranges; the old ones are then kept.
-pub fn set(b: &mut [u32], run: &[u32]) -> u8
+pub fn set(b: &mut [u32], run: &[u32]) -> Result<(), Refusal>
     requires { ValidRanges b.old }
-    ensures answer { RangesTold (ranges_set (ranges_in b.old) run.now) result b.new }
+    ensures answer { RangesTold (ranges_set (ranges_in b.old) run.now) (number_of result) b.new }
     ensures kept { ValidRanges b.new }
 {
     if !may_be_ranges(run) {
-        return RANGES_WRONG;
+        return Err(Refusal::RangesWrong);
     }
     put(b, run);
-    0
+    Ok(())
 }
 
 // Whether any range is set.

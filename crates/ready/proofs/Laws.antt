@@ -8,7 +8,7 @@ use mathlib.Core.Bool.{Bool, true, false, ◌||◌, or_assoc, or-false, or-true}
 use mathlib.Core.List.{List, [], ◌∷◌, ◌++◌, map}
 use mathlib.Core.Logic.{inl, inr, ⊎_elim}
 use lib.ListN.{length, get_or, set, take, drop, replicate, length-map, length-drop}
-use lib.Seq.{length-take-le, take-suc}
+use lib.Seq.{length-take-le, take-suc, take_all}
 use lib.Dec.{eqb}
 use borrow.Author.Tests.{eq-eqb, ne_eqb, eqb-true, eqb-false, lt-ltb, le-ltb}
 use Rattle.lists.proofs.Bools.{by-test, or_left, or_right}
@@ -19,8 +19,7 @@ use Rattle.keyed.proofs.Keyed.{Present, present-of, has-below}
 use Rattle.rows.specs.Rows.{rows_in, found_in}
 use Rattle.rows.proofs.Rows.{rows-length, rows_at}
 use Rattle.lists.proofs.Lists.{get_d-map-in}
-use Rattle.rows.specs.declared.Found.{Found}
-use Rattle.rows.specs.declared.Found.TheVariants.{At, Missing}
+use Rattle.std.specs.Prelude.{Result, Ok, Err}
 use Rattle.rows.proofs.Places.{found_at, found-missing, at_lt}
 use Rattle.layout.specs.Table.{Entry, entry_key, no_entry}
 use Rattle.layout.specs.Words.{table_in, Valid}
@@ -102,14 +101,14 @@ module _ (es : List Entry) (short : length es ≤ 64) (rising : Rising entry_key
   next : flags (take (i + 1) ready) es ≡ map (marked entry_key before k) es
   next = rw (add-one, take-suc ready i [] h) (flags-snoc (take i ready) (get_or ready i []) es)
 
-  pub ready-found : (j : ℕ) → found_in entry_key k es ≡ At j → with_place s j ≡ set_of (flags (take (i + 1) ready) es)
+  pub ready-found : (j : ℕ) → found_in entry_key k es ≡ Ok j → with_place s j ≡ set_of (flags (take (i + 1) ready) es)
   ready-found j f =
       let p = found_at entry_key k es j f in
       let l : length (flags (take i ready) es) ≡ length es = length-map es before in
       rw (q, next, mark-present entry_key before k es 1 no_entry rising (present-of entry_key k es 1 no_entry rising p.0), p.1)
       (with_place-set (flags (take i ready) es) j (omega (arith, at_lt entry_key k es 1 no_entry rising j f, l)) (omega (arith, l)))
 
-  pub ready-stranger : (j : ℕ) → found_in entry_key k es ≡ Missing j → s ≡ set_of (flags (take (i + 1) ready) es)
+  pub ready-stranger : (j : ℕ) → found_in entry_key k es ≡ Err j → s ≡ set_of (flags (take (i + 1) ready) es)
   ready-stranger j f = q ∙ ap set_of (sym (next ∙ mark-absent entry_key before k es (found-missing entry_key k es j f).0))
 
 -- THE CANDIDATE SET
@@ -142,9 +141,38 @@ by-family r n s =
     (λ t. n (inl (eqb-true _ 4 t)))
     (λ f. by-test (eqb (get_or r 0 0) 6) (λ t. n (inr (eqb-true _ 6 t))) (λ g. s (⊎_elim (eqb-false _ 4 f) (eqb-false _ 6 g))))
 
-pub told_at : (r : List ℕ) {f k : Found} {i : ℕ} → (NamesAddress r → f ≡ k) → ((NamesAddress r → ⊥) → (j : ℕ) → f ≡ At j → ⊥) → f ≡ At i → k ≡ At i
+pub told_at : (r : List ℕ) {f k : Result ℕ ℕ} {i : ℕ} → (NamesAddress r → f ≡ k) → ((NamesAddress r → ⊥) → (j : ℕ) → f ≡ Ok j → ⊥) → f ≡ Ok i → k ≡ Ok i
 told_at r {i = i} n s e = by-family r (λ m. sym (n m) ∙ e) (λ d. absurd (s d i e))
 
-pub told-missing : {P : Type 0} (r b : List ℕ) → Valid b → {f : Found} {i : ℕ} → (NamesAddress r → f ≡ found_in entry_key (address_key (listed_in r)) (table_in b).entries) → f ≡ Missing i
-    → ((j : ℕ) → found_in entry_key (address_key (listed_in r)) (table_in b).entries ≡ Missing j → P) → P
+pub told-missing : {P : Type 0} (r b : List ℕ) → Valid b → {f : Result ℕ ℕ} {i : ℕ} → (NamesAddress r → f ≡ found_in entry_key (address_key (listed_in r)) (table_in b).entries) → f ≡ Err i
+    → ((j : ℕ) → found_in entry_key (address_key (listed_in r)) (table_in b).entries ≡ Err j → P) → P
 told-missing r b v {i = i} n e p = by-family r (λ m. p i (sym (n m) ∙ e)) (λ d. p 0 (sym (stranger b r v (λ f. d (inl f)) (λ f. d (inr f)))))
+
+-- ONE TURN over a list: the row at place i is looked up among the entries of a table, with the outcome f
+module _ (b w : List ℕ) (v : Valid b) (i : ℕ) (h : i < length w / 5) {f : Result ℕ ℕ}
+    (n : NamesAddress (row w i (i * 5) h refl) → f ≡ found_in entry_key (address_key (listed_in (row w i (i * 5) h refl))) (table_in b).entries) where
+  abbrev found : List Entry
+  found = (table_in b).entries
+
+  in_list : i < length (ready_in w)
+  in_list = omega (arith, length-ready w, h)
+
+  named : found_in entry_key (address_key (get_or (ready_in w) i [])) found ≡ found_in entry_key (address_key (listed_in (row w i (i * 5) h refl))) found
+  named = ap (λ (r : List ℕ). found_in entry_key (address_key r) found) (ready_at w i (i * 5) h refl)
+
+  pub turn-missing : {j set : ℕ} → set ≡ set_of (flags (take i (ready_in w)) found) → f ≡ Err j → set ≡ set_of (flags (take (i + 1) (ready_in w)) found)
+  turn-missing {set = set} q e =
+      told-missing (row w i (i * 5) h refl) b v n e (λ k z. ready-stranger found v.sound.short v.sound.rising (ready_in w) i in_list set q k (named ∙ z))
+
+  module _ (s : (NamesAddress (row w i (i * 5) h refl) → ⊥) → (j : ℕ) → f ≡ Ok j → ⊥) where
+    pub turn_lt : {j : ℕ} → f ≡ Ok j → j < 64
+    turn_lt e = omega (arith, v.sound.short, at_lt entry_key _ found 1 no_entry v.sound.rising _ (told_at (row w i (i * 5) h refl) n s e))
+
+    pub turn-found : {j set : ℕ} → set ≡ set_of (flags (take i (ready_in w)) found) → f ≡ Ok j → with_place set j ≡ set_of (flags (take (i + 1) (ready_in w)) found)
+    turn-found {j} {set} q e = ready-found found v.sound.short v.sound.rising (ready_in w) i in_list set q j (named ∙ told_at (row w i (i * 5) h refl) n s e)
+
+-- and after the last turn the whole list
+pub turn-end : (b w : List ℕ) (i set : ℕ) → length w / 5 ≤ i → set ≡ set_of (flags (take i (ready_in w)) (table_in b).entries) → set ≡ set_of (flags (ready_in w) (table_in b).entries)
+turn-end b w i set h q =
+    let e : take i (ready_in w) ≡ ready_in w = take_all i (ready_in w) (omega (arith, length-ready w)) in
+    rw e at q

@@ -7,7 +7,6 @@ ghost use Rattle.places.specs.Places.{set_of};
 ghost use Rattle.ready.specs.Ready.{ready_in, on_list, candidate_set};
 
 use address::WIDTH;
-use rows::Found;
 
 // The set of the places whose address is on the ready list, a run of rows of five words. Repeats and strangers in the list do no harm. The first look for an address is at the table's
 // place after the one where the address before it was found, or at the place where that one would stand: where the list rises as the table does, it is there.
@@ -16,25 +15,21 @@ pub fn ready_set(t: &[u32], ready: &[u32]) -> u64
     requires { Valid t.now }
     ensures { result ≡ set_of (map (λ e. on_list (ready_in ready.now) e.address) (table_in t.now).entries) }
 {
-    let mut left = ready.len() / WIDTH;
     let mut set = 0;
     let mut first = 0;
-    let mut start = 0;
-    while left != 0 {
+    for i in 0..ready.len() / WIDTH {
+        let start = i * WIDTH;
         let end = start + WIDTH;
         let looked = entries::lookup(t, first, &ready[start..end]);
-        let found = looked.found;
-        match found {
-            Found::At(at) => {
+        match looked.found {
+            Ok(at) => {
                 set = places::with(set, at);
                 first = at + 1;
             }
-            Found::Missing(at) => {
+            Err(at) => {
                 first = at;
             }
         }
-        start = end;
-        left -= 1;
     }
     set
 }

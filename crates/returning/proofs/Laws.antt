@@ -16,7 +16,7 @@ use Rattle.address.specs.Address.{address_key, is_zero}
 use Rattle.keyed.specs.Keyed.{Rising, without_at}
 use Rattle.keyed.proofs.Order.{remove_absent}
 use Rattle.rows.specs.Rows.{found_in}
-use Rattle.rows.specs.declared.Found.TheVariants.{At, Missing}
+use Rattle.std.specs.Prelude.{Ok, Err}
 use Rattle.rows.proofs.Places.{found-missing, at_lt, remove-at}
 use Rattle.layout.specs.Table.{Entry, entry_key, no_entry}
 use Rattle.layout.specs.Words.{standing_of}
@@ -25,8 +25,7 @@ use Rattle.places.proofs.Laws.{places-none, places-walk}
 use Rattle.places.proofs.Flags.{set_of-lt, picked-places, picked_all, without_place-set}
 use Rattle.settings.specs.Settings.{Settings, any_range}
 use Rattle.winner.specs.Winner.{entries_at}
-use Rattle.returning.specs.declared.Sent.{Sent}
-use Rattle.returning.specs.Returning.{others, all_under, reaches, sent, reference, fits, beside_reference, keeps_own, advertised, returning_of, beside_both, advertised_both, returning_with}
+use Rattle.returning.specs.Returning.{Sent, others, all_under, reaches, sent, reference, fits, beside_reference, keeps_own, advertised, returning_of, beside_both, advertised_both, returning_with}
 
 -- THE OTHER ROUTES
 picked-without_at : {A : Type 0} (l : List A) (i : ℕ) → i < length l → picked (set (replicate (length l) true) i false) l ≡ without_at l i
@@ -46,11 +45,11 @@ module _ (es : List Entry) (short : length es ≤ 64) (rising : Rising entry_key
   others-of bs s l e p =
       (rw e (subst (λ (k : ℕ). set_of bs < 2 ^ k) l (set_of-lt bs)), rw e (picked-places bs es no_entry (sym l) (omega arith)) ∙ p)
 
-  pub others-missing : (i : ℕ) → found_in entry_key (address_key a) es ≡ Missing i → Others all
+  pub others-missing : (i : ℕ) → found_in entry_key (address_key a) es ≡ Err i → Others all
   others-missing i f =
       others-of (replicate (length es) true) all (length-replicate (length es) true) is_all (picked_all es ∙ sym (remove_absent entry_key (address_key a) es (found-missing entry_key (address_key a) es i f).0))
 
-  pub others-at : (i s : ℕ) → found_in entry_key (address_key a) es ≡ At i → s ≡ without_place all i → Others s
+  pub others-at : (i s : ℕ) → found_in entry_key (address_key a) es ≡ Ok i → s ≡ without_place all i → Others s
   others-at i s f e =
       let l = at_lt entry_key (address_key a) es 1 no_entry rising i f in
       let bs = replicate (length es) true in
@@ -142,6 +141,9 @@ module _ (p : ℕ) (os : List Entry) (r : Sent) (q : r ≡ beside_reference 2 p 
       by-test (fits 2 p (reference 2 os))
       (λ e. absurd (true-false d (dp-told true e)))
       (λ e. sym (rw e))
+
+-- both, for `beside_both`, which the check proves
+pub ruleset either_fits = (highest-fits, lowest-left)
 
 -- beside the other routes, whether ranges are set or not
 module _ (os : List Entry) (b : Bool) (g p : ℕ) where

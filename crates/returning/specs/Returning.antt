@@ -2,7 +2,10 @@
 --   others a l                 == the routes of l but that of the own address a
 --   all_under g l               == whether all routes of l carry the algorithm g
 --   reaches g p q              == whether the own preference p is at least (under 3: at most) the reference's, q
+--   Sent                       == the answer: 0 and the pair that is sent, or a refusal's number and zeros
 --   sent n p d                 == the answer with the number n and the pair p and d
+--   sent_pair s                == the answer that sends the pair s
+--   sent_in r                  == the answer that the result r is
 --   reference g os             == the reference among the other routes os: the one that wins by rule 2, where g is 2, or by rule 3
 --   fits g p e                 == whether the reference e is one whose preference is sent: its DP is set, and the own preference reaches it
 --   beside_reference g p d e    == what is sent beside the reference e
@@ -12,7 +15,7 @@
 --   beside_both p d os          == what is sent beside both references
 --   advertised_both g p d os    == as advertised, with both references
 --   returning_with s l a g p d  == the whole answer, where s is set; with no range set it is document 01's
-use Rattle.std.specs.Prelude.{ℕ, Bool, false, cond, not, ◌&&◌, ◌||◌, List, length, leb, eqb}
+use Rattle.std.specs.Prelude.{ℕ, Bool, false, cond, not, ◌&&◌, ◌||◌, List, length, leb, eqb, Result, Ok, Err}
 use Rattle.lists.specs.Lists.{all}
 use Rattle.address.specs.Address.{address_key, is_zero}
 use Rattle.keyed.specs.Keyed.{remove}
@@ -21,7 +24,9 @@ use Rattle.settings.specs.Settings.{Settings, any_range}
 use Rattle.choice.specs.Choice.{best_in}
 use Rattle.winner.specs.Winner.{better}
 use Rattle.refusals.specs.Refusals.{algorithm_not_usable, address_zero}
-use Rattle.returning.specs.declared.Sent.{Sent}
+use Rattle.refusals.specs.Numbers.{refusal_number}
+use Rattle.refusals.specs.declared.Refusal.{Refusal}
+use Rattle.returning.specs.declared.Pair.{Pair}
 
 abbrev pub others : List ℕ → List Entry → List Entry
 others a l = remove entry_key (address_key a) l
@@ -32,8 +37,20 @@ all_under g l = all (λ e. eqb e.algorithm g) l
 unfoldable pub reaches : ℕ → ℕ → ℕ → Bool
 reaches g p q = cond (eqb g 3) (leb p q) (leb q p)
 
+pub record Sent : Type 0 where
+  pub number : ℕ
+  pub preference : ℕ
+  pub dp : Bool
+
 abbrev pub sent : ℕ → ℕ → Bool → Sent
 sent n p d = record { number = n; preference = p; dp = d }
+
+abbrev pub sent_pair : Pair → Sent
+sent_pair s = sent 0 s.preference s.dp
+
+abbrev pub sent_in : Result Pair Refusal → Sent
+sent_in (Ok s) = sent_pair s
+sent_in (Err r) = sent (refusal_number r) 0 false
 
 abbrev pub reference : ℕ → List Entry → Entry
 reference g os = best_in (better g 0) no_entry os

@@ -8,16 +8,14 @@ ghost use Rattle.settings.specs.Settings.{settings_in, ValidSettings};
 ghost use Rattle.places.specs.Places.{places, stretch};
 ghost use Rattle.winner.specs.Winner.{entries_at};
 ghost use Rattle.returning.specs.Returning as returning;
-ghost use Rattle.returning.specs.Returning.{all_under, reaches, reference, beside_reference, beside_both, advertised, advertised_both, returning_with};
+ghost use Rattle.returning.specs.Returning.{all_under, reaches, reference, beside_reference, beside_both, advertised, advertised_both, returning_with, sent_pair, sent_in};
 
 use address::Address;
-use refusals::{ADDRESS_ZERO, ALGORITHM_NOT_USABLE};
-use rows::Found;
+use refusals::Refusal;
 
-// The answer: 0 and the pair that is sent, or a refusal number and zeros.
-#[derive(Clone, Copy)]
-pub struct Sent {
-    pub number: u8,
+// The pair that is sent; of zeros where nothing is.
+#[derive(Clone, Copy, Debug, Default, PartialEq, Eq)]
+pub struct Pair {
     pub preference: u16,
     pub dp: bool,
 }
@@ -29,7 +27,7 @@ fn others(t: &[u32], address: Address) -> u64
 {
     let all = places::below(layout::count(t));
     let found = entries::find(t, address);
-    let Found::At(at) = found else {
+    let Ok(at) = found else {
         return all;
     };
     places::without(all, at)
@@ -43,10 +41,8 @@ fn differing(t: &[u32], from: usize, end: usize, algorithm: u8, before: u32) -> 
 {
     let wanted = algorithm as u32;
     let mut differ = before;
-    let mut i = from;
-    while i < end {
-        differ = differ | (layout::algorithm_at(t, i) ^ wanted);
-        i += 1;
+    for i in from..end {
+        differ |= layout::algorithm_at(t, i) ^ wanted;
     }
     differ
 }
@@ -68,6 +64,7 @@ fn all_under(t: &[u32], set: u64, algorithm: u8) -> bool
 }
 
 // Whether the own preference is at least (under algorithm 3: at most) the reference's.
+#[tactic(auto, unfolding(crate::specs::Returning::reaches))]
 fn reach(algorithm: u8, own: u16, reference: u16) -> bool
     ensures { result ≡ reaches algorithm own reference }
 {
@@ -79,13 +76,12 @@ fn reach(algorithm: u8, own: u16, reference: u16) -> bool
 
 // What is sent beside the reference of algorithm 2 or 3 among the routes of a set of places, where the own DP is set.
 #[tactic(auto, unfolding(crate::specs::Returning::beside_reference, crate::specs::Returning::fits, layout::specs::Words::standing_of))]
-fn beside_reference(t: &[u32], set: u64, algorithm: u8, preference: u16) -> Sent
+fn beside_reference(t: &[u32], set: u64, algorithm: u8, preference: u16) -> Pair
     requires { Valid t.now × (set < 2 ^ length (table_in t.now).entries) × (set ≡ 0 → ⊥) × (algorithm ≡ 1 → ⊥) }
-    ensures { result ≡ beside_reference algorithm preference true (reference algorithm (entries_at (table_in t.now).entries (places set))) }
+    ensures { sent_pair result ≡ beside_reference algorithm preference true (reference algorithm (entries_at (table_in t.now).entries (places set))) }
 {
-    let own = Sent {
-        number: 0,
-        preference: preference,
+    let own = Pair {
+        preference,
         dp: true,
     };
     let at = winner::preferred(t, set, algorithm);
@@ -97,17 +93,17 @@ fn beside_reference(t: &[u32], set: u64, algorithm: u8, preference: u16) -> Sent
     if !reach(algorithm, preference, reference) {
         return own;
     }
-    Sent {
-        number: 0,
+    Pair {
         preference: reference,
         dp: false,
     }
 }
 
 // What is sent beside both references, where the own DP is set: one that fits is sent with DP clear, which tells that it fits.
-fn beside_both(t: &[u32], set: u64, preference: u16) -> Sent
+#[tactic(auto, using(crate::proofs::Laws::either_fits))]
+fn beside_both(t: &[u32], set: u64, preference: u16) -> Pair
     requires { Valid t.now × (set < 2 ^ length (table_in t.now).entries) × (set ≡ 0 → ⊥) }
-    ensures { result ≡ beside_both preference true (entries_at (table_in t.now).entries (places set)) }
+    ensures { sent_pair result ≡ beside_both preference true (entries_at (table_in t.now).entries (places set)) }
 {
     let highest = beside_reference(t, set, 2, preference);
     if !highest.dp {
@@ -118,38 +114,17 @@ fn beside_both(t: &[u32], set: u64, preference: u16) -> Sent
 
 // What is sent beside the other routes, which stand at a set of places, where the own algorithm is 2 or 3; `ranges` tells whether any range is set.
 #[tactic(auto, using(crate::proofs::Laws::whether_any_stands), unfolding(crate::specs::Returning::advertised, crate::specs::Returning::advertised_both, crate::specs::Returning::keeps_own))]
-fn beside(t: &[u32], set: u64, ranges: bool, algorithm: u8, preference: u16, dp: bool) -> Sent
+fn beside(t: &[u32], set: u64, ranges: bool, algorithm: u8, preference: u16, dp: bool) -> Pair
     requires { Valid t.now × (set < 2 ^ length (table_in t.now).entries) × (algorithm ≡ 1 → ⊥) }
-    ensures { result ≡ cond ranges (advertised_both algorithm preference dp (entries_at (table_in t.now).entries (places set))) (advertised algorithm preference dp (entries_at (table_in t.now).entries (places set))) }
+    ensures { sent_pair result ≡ cond ranges (advertised_both algorithm preference dp (entries_at (table_in t.now).entries (places set))) (advertised algorithm preference dp (entries_at (table_in t.now).entries (places set))) }
 {
-    let own = Sent {
-        number: 0,
-        preference: preference,
-        dp: dp,
-    };
-    if !dp {
-        return own;
-    }
-    if set == 0 {
-        return own;
-    }
-    if !all_under(t, set, algorithm) {
-        return own;
+    if !dp || set == 0 || !all_under(t, set, algorithm) {
+        return Pair { preference, dp };
     }
     if ranges {
         return beside_both(t, set, preference);
     }
     beside_reference(t, set, algorithm, preference)
-}
-
-fn refusal(number: u8) -> Sent
-    ensures { result ≡ returning.sent number 0 false }
-{
-    Sent {
-        number: number,
-        preference: 0,
-        dp: false,
-    }
 }
 
 // What a returning router advertises: 15 for an own algorithm that is not 2 or 3, 6 for address zero. The own entry is passed over. The administrative pair is
@@ -163,20 +138,17 @@ pub fn returning(
     algorithm: u8,
     preference: u16,
     dp: bool,
-) -> Sent
+) -> Result<Pair, Refusal>
     requires { Valid t.now × ValidSettings settings.now }
-    ensures { result ≡ returning_with (settings_in settings.now) (table_in t.now).entries (address_row address) algorithm preference dp }
+    ensures { sent_in result ≡ returning_with (settings_in settings.now) (table_in t.now).entries (address_row address) algorithm preference dp }
 {
-    if algorithm < 2 {
-        return refusal(ALGORITHM_NOT_USABLE);
-    }
-    if 3 < algorithm {
-        return refusal(ALGORITHM_NOT_USABLE);
+    if !matches!(algorithm, 2 | 3) {
+        return Err(Refusal::AlgorithmNotUsable);
     }
     if address::is_zero(address) {
-        return refusal(ADDRESS_ZERO);
+        return Err(Refusal::AddressZero);
     }
     let set = others(t, address);
     let ranges = settings::any_range(settings);
-    beside(t, set, ranges, algorithm, preference, dp)
+    Ok(beside(t, set, ranges, algorithm, preference, dp))
 }

@@ -11,7 +11,13 @@ fn returning_stays(rt: &impl Print) -> io::Result<()> {
     let mut t = with(empty_table(), 1, 2, 200, true);
     t = with(t, 2, 2, 100, true);
     let words = t.words;
-    let sent = segment::returning(&words, example_tables::router(3), 2, 150, true);
+    let sent = segment::returning(
+        &words,
+        example_tables::router(3),
+        2,
+        150,
+        true,
+    ).unwrap_or_default();
     show_pair(
         rt,
         b"returning with (150, 1) to (200, 1) and (100, 1) under 2",
@@ -34,7 +40,13 @@ fn revertive(rt: &impl Print) -> io::Result<()> {
 fn non_revertive(rt: &impl Print) -> io::Result<()> {
     let failed = without(second_segment(HIGHEST, true), 3);
     let words = failed.words;
-    let sent = segment::returning(&words, example_tables::router(3), HIGHEST, 300, true);
+    let sent = segment::returning(
+        &words,
+        example_tables::router(3),
+        HIGHEST,
+        300,
+        true,
+    ).unwrap_or_default();
     show_pair(
         rt,
         b"4.3: PE3 back with (300, 1) sends",

@@ -7,8 +7,7 @@ use lib.ListN.{length, get_or, take, drop}
 use lib.Dec.{eqb}
 use Rattle.address.specs.Address.{address_row, is_zero}
 use Rattle.esi.specs.Reserved.{reserved}
-use Rattle.route.specs.Route.{route_total, route_originator, route_checked}
-use Rattle.route.specs.declared.Checked.TheVariants.{Originator, Refused}
+use Rattle.route.specs.Route.{route_total, route_originator, route_checked, Originator, Refused}
 use Rattle.route.proofs.Laws.{not-total, not-length, reserved-esi, zero-address, originates}
 
 module _ (s : List ℕ) (l : 21 ≤ length s) (t : get_or s 0 0 ≡ 4) (b : (eqb (get_or s 20 0) 32 || eqb (get_or s 20 0) 128) ≡ true) where

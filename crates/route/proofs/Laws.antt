@@ -14,9 +14,7 @@ use Rattle.address.specs.declared.Address.{Address}
 use Rattle.address.proofs.Laws.{row-address}
 use Rattle.esi.specs.Reserved.{reserved}
 use Rattle.esi.proofs.Laws.{length-not-reserved}
-use Rattle.route.specs.Route.{total_of, route_total, ipv4_in, ipv6_in, route_esi, route_originator, route_address, route_number, offset_of, route_offset, Fault, none, total, length_octet, type, bits, identifier, zero_address, checked_number, checked_offset, checked_address, route_value, route_checked}
-use Rattle.route.specs.declared.Checked.{Checked}
-use Rattle.route.specs.declared.Checked.TheVariants.{Originator, Refused}
+use Rattle.route.specs.Route.{total_of, route_total, ipv4_in, ipv6_in, route_esi, route_originator, route_address, route_number, offset_of, route_offset, Fault, none, total, length_octet, type, bits, identifier, zero_address, checked_number, checked_offset, checked_address, route_value, route_checked, Checked, Originator, Refused}
 
 -- a route has at least 25 octets
 pub total-least : (b : ℕ) → 25 ≤ total_of b
@@ -170,6 +168,9 @@ module _ (s : List ℕ) where
   pub originator-four : (get_or s 20 0 ≡ 128 → ⊥) → ipv4_in s ≡ route_originator s
   unfolding route_originator
   originator-four n = rw (ne_eqb (get_or s 20 0) 128 n)
+
+-- what the code of the originator goes by
+pub ruleset originators = (bits-six, bits-four, total-four, originator-six, originator-four)
 
 pub route-is-address : (s : List ℕ) → IsAddress (route_address s)
 unfolding route_address

@@ -10,12 +10,14 @@
 --   offset_of n s              == the offset that the number n speaks of in the route s (document 02, M-103)
 --   route_offset s             == the offset that the route's number speaks of
 --   Fault s n p               == what the number n and the offset p tell of the route s: what stands at p is wrong
+--   Checked                    == the check's answer: the originator's address, or a refusal number and the offset that it speaks of
+--   told_check r               == the answer that the check's result r is
 --   checked_number c           == document 01's number for each case of the check's answer
 --   checked_offset c           == the offset for each case: 0 with an address
 --   checked_address c          == document 01's value for each case: the originator's address, or none with a refusal
 --   route_value s              == document 01's value for the route s: its address where it is accepted, else none
 --   route_checked s            == the check's answer
-use Rattle.std.specs.Prelude.{ℕ, ◌-◌, ◌≡◌, true, cond, not, ◌||◌, List, [], ◌∷◌, length, get_or, take, drop, ltb, eqb}
+use Rattle.std.specs.Prelude.{ℕ, ◌-◌, ◌≡◌, true, cond, not, ◌||◌, List, [], ◌∷◌, length, get_or, take, drop, ltb, eqb, Result, Ok, Err}
 use Rattle.lists.specs.Checks.{first_refusal}
 use Rattle.octets.specs.Octets.{word_at}
 use Rattle.address.specs.Address.{address_row, is_zero}
@@ -23,8 +25,8 @@ use Rattle.address.specs.declared.Address.{Address}
 use Rattle.address.specs.declared.Family.TheVariants.{V4, V6}
 use Rattle.esi.specs.Reserved.{reserved}
 use Rattle.refusals.specs.Refusals.{wrong_length, wrong_type, wrong_address_length, esi_reserved, address_zero}
-use Rattle.route.specs.declared.Checked.{Checked}
-use Rattle.route.specs.declared.Checked.TheVariants.{Originator, Refused}
+use Rattle.refusals.specs.Numbers.{refusal_number}
+use Rattle.refusals.specs.declared.RefusalAt.{RefusalAt}
 
 unfoldable pub route_distinguisher : List ℕ → List ℕ
 route_distinguisher s = take 8 (drop 2 s)
@@ -84,6 +86,14 @@ pub data Fault (s : List ℕ) (n p : ℕ) : Type 0 where
   bits : n ≡ wrong_address_length → p ≡ 20 → (get_or s p 0 ≡ 32 → ⊥) → (get_or s p 0 ≡ 128 → ⊥) → Fault s n p
   identifier : n ≡ esi_reserved → p ≡ 10 → reserved (take 10 (drop p s)) ≡ true → Fault s n p
   zero_address : n ≡ address_zero → p ≡ 21 → is_zero (route_address s) ≡ true → Fault s n p
+
+pub data Checked : Type 0 where
+  Originator : Address → Checked
+  Refused : ℕ → ℕ → Checked
+
+abbrev pub told_check : Result Address RefusalAt → Checked
+told_check (Ok a) = Originator a
+told_check (Err r) = Refused (refusal_number r.refusal) r.offset
 
 abbrev pub checked_number : Checked → ℕ
 checked_number (Originator a) = 0

@@ -16,39 +16,14 @@ ghost use Rattle.route.specs.Route.{
   route_offset,
   route_value,
   route_checked,
+  told_check,
 };
 
 use address::{Address, Family};
-use refusals::{ADDRESS_ZERO, ESI_RESERVED, WRONG_ADDRESS_LENGTH, WRONG_LENGTH, WRONG_TYPE};
-
-// The answer of the check: the originator's address, or a refusal number and the offset that it speaks of.
-#[derive(Clone, Copy)]
-pub enum Checked {
-    Originator(Address),
-    Refused(u8, usize),
-}
-
-// The number of a check's answer: 0 for an address.
-pub fn number(c: Checked) -> u8
-    ensures { result ≡ checked_number c }
-{
-    match c {
-        Checked::Originator(_) => 0,
-        Checked::Refused(n, _) => n,
-    }
-}
-
-// The offset of a check's answer: 0 for an address.
-pub fn offset(c: Checked) -> usize
-    ensures { result ≡ checked_offset c }
-{
-    match c {
-        Checked::Originator(_) => 0,
-        Checked::Refused(_, p) => p,
-    }
-}
+use refusals::{Refusal, RefusalAt};
 
 // How many octets a route has whose address has so many bits: 37 for 128, else 25.
+#[tactic(auto, unfolding(crate::specs::Route::total_of))]
 pub fn total(bits: u8) -> usize
     ensures { result ≡ total_of bits }
 {
@@ -59,6 +34,7 @@ pub fn total(bits: u8) -> usize
 }
 
 // The IPv4 address in a route.
+#[tactic(auto, unfolding(crate::specs::Route::ipv4_in))]
 fn ipv4(s: &[u8]) -> Address
     requires { 25 ≤ length s.now }
     ensures { result ≡ ipv4_in s.now }
@@ -74,6 +50,7 @@ fn ipv4(s: &[u8]) -> Address
 }
 
 // The IPv6 address in a route.
+#[tactic(auto, unfolding(crate::specs::Route::ipv6_in))]
 fn ipv6(s: &[u8]) -> Address
     requires { 37 ≤ length s.now }
     ensures { result ≡ ipv6_in s.now }
@@ -92,6 +69,7 @@ fn ipv6(s: &[u8]) -> Address
 }
 
 // The originator's address in a route of the right length.
+#[tactic(auto, using(crate::proofs::Laws::originators))]
 fn originator(s: &[u8]) -> Address
     requires { length s.now ≡ route_total s.now }
     ensures { result ≡ route_originator s.now }
@@ -105,48 +83,67 @@ fn originator(s: &[u8]) -> Address
 // The checks that go by the family, for a route of type 4 whose address length is right: not 25 (37) octets or length octet not 23 (35), 1; identifier reserved, 4;
 // address zero, 6. `wanted` is how many octets it should have.
 #[tactic(auto, using(crate::proofs::Framed::checks_told))]
-fn check_framed(s: &[u8], wanted: usize) -> Checked
+fn check_framed(s: &[u8], wanted: usize) -> Result<Address, RefusalAt>
     requires { (21 ≤ length s.now) × (get_or s.now 0 0 ≡ 4) × ((eqb (get_or s.now 20 0) 32 || eqb (get_or s.now 20 0) 128) ≡ true) × (wanted ≡ route_total s.now) }
-    ensures { result ≡ route_checked s.now }
+    ensures { told_check result ≡ route_checked s.now }
 {
     if s.len() != wanted {
-        return Checked::Refused(WRONG_LENGTH, s.len());
+        return Err(RefusalAt {
+            refusal: Refusal::WrongLength,
+            offset: s.len(),
+        });
     }
     if s[1] as usize != wanted - 2 {
-        return Checked::Refused(WRONG_LENGTH, 1);
+        return Err(RefusalAt {
+            refusal: Refusal::WrongLength,
+            offset: 1,
+        });
     }
     if esi::is_reserved(&s[10..20]) {
-        return Checked::Refused(ESI_RESERVED, 10);
+        return Err(RefusalAt {
+            refusal: Refusal::EsiReserved,
+            offset: 10,
+        });
     }
     let a = originator(s);
     if address::is_zero(a) {
-        return Checked::Refused(ADDRESS_ZERO, 21);
+        return Err(RefusalAt {
+            refusal: Refusal::AddressZero,
+            offset: 21,
+        });
     }
-    Checked::Originator(a)
+    Ok(a)
 }
 
 // Checks a route, in document 01's order: fewer than 21 octets, 1; type not 4, 2; address length neither 32 nor 128, 3; not 25 (37) octets or length octet
 // not 23 (35), 1; identifier reserved, 4; address zero, 6. Otherwise the answer is the originator's address. With a refusal comes the offset of what is
 // wrong: for 1 the number of octets where that is wrong, else the length octet; 0 for 2, 20 for 3, 10 for 4, 21 for 6. By the three definitions of
 // what each case says, the answer's number, offset and address are document 01's: with a refusal there is no address.
-pub fn check(s: &[u8]) -> Checked
-    ensures value { result ≡ route_checked s.now }
-    ensures numbered { checked_number result ≡ route_number s.now }
-    ensures placed { checked_offset result ≡ route_offset s.now }
-    ensures valued { checked_address result ≡ route_value s.now }
-    ensures fault { Fault s.now (checked_number result) (checked_offset result) }
+pub fn check(s: &[u8]) -> Result<Address, RefusalAt>
+    ensures value { told_check result ≡ route_checked s.now }
+    ensures numbered { checked_number (told_check result) ≡ route_number s.now }
+    ensures placed { checked_offset (told_check result) ≡ route_offset s.now }
+    ensures valued { checked_address (told_check result) ≡ route_value s.now }
+    ensures fault { Fault s.now (checked_number (told_check result)) (checked_offset (told_check result)) }
 {
     if s.len() < 21 {
-        return Checked::Refused(WRONG_LENGTH, s.len());
+        return Err(RefusalAt {
+            refusal: Refusal::WrongLength,
+            offset: s.len(),
+        });
     }
     if s[0] != 4 {
-        return Checked::Refused(WRONG_TYPE, 0);
+        return Err(RefusalAt {
+            refusal: Refusal::WrongType,
+            offset: 0,
+        });
     }
-    if s[20] == 32 {
-        return check_framed(s, 25);
+    match s[20] {
+        32 => check_framed(s, 25),
+        128 => check_framed(s, 37),
+        _ => Err(RefusalAt {
+            refusal: Refusal::WrongAddressLength,
+            offset: 20,
+        }),
     }
-    if s[20] == 128 {
-        return check_framed(s, 37);
-    }
-    Checked::Refused(WRONG_ADDRESS_LENGTH, 20)
 }

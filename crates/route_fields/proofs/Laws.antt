@@ -19,29 +19,19 @@ use Rattle.address.specs.declared.Family.TheVariants.{V4, V6}
 use Rattle.rows.proofs.Compared.{Words}
 use Rattle.esi.specs.Reserved.{reserved}
 use Rattle.esi.proofs.Laws.{length-not-reserved}
-use Rattle.route.specs.Route.{total_of, route_total, ipv4_in, ipv6_in, route_distinguisher, route_esi, route_originator, route_address, route_number, Fault, none, checked_number, checked_offset, route_checked}
-use Rattle.route.specs.declared.Checked.{Checked}
-use Rattle.route.specs.declared.Checked.TheVariants.{Originator, Refused}
-use Rattle.route.proofs.Laws.{total-least, Answers, route-length, told-originator, told-refused}
+use Rattle.route.specs.Route.{total_of, route_total, ipv4_in, ipv6_in, route_distinguisher, route_esi, route_originator, route_address, route_number, route_checked, Originator, Refused}
+use Rattle.route.proofs.Laws.{total-least, route-length, told-originator, told-refused}
 use Rattle.route_fields.specs.Fields.{bits_of, read_as, read_route, route_octets, write_route_number, route_written}
-use Rattle.route_fields.specs.declared.RouteRead.{RouteRead}
 
 module _ (s : List ℕ) where
   -- WHAT THE READER ANSWERS
-  read-refused : (n p : ℕ) → route_checked s ≡ Refused n p → read_as n p (replicate 8 0) (replicate 10 0) 0 (replicate 16 0) ≡ read_route s
+  pub read_refused : (n p : ℕ) → Refused n p ≡ route_checked s → read_as n p (replicate 8 0) (replicate 10 0) 0 (replicate 16 0) ≡ read_route s
   unfolding read_route
-  read-refused n p h = let t = told-refused s n p h in rw (ne_eqb (route_number s) 0 t.0, t.1.0, t.1.1)
+  read_refused n p h = let t = told-refused s n p (sym h) in rw (ne_eqb (route_number s) 0 t.0, t.1.0, t.1.1)
 
-  -- the same with what the offset tells, from the check's answer
-  abbrev pub Reads : RouteRead → Type 0
-  Reads x = (x ≡ read_route s) × Fault s x.number x.offset
-
-  pub reads-refused : (k : Checked) (n p m q : ℕ) → Answers s k → k ≡ Refused n p → m ≡ checked_number k → q ≡ checked_offset k
-      → Reads (read_as m q (replicate 8 0) (replicate 10 0) 0 (replicate 16 0))
-  reads-refused k n p m q a t e f =
-      let e' : m ≡ n = e ∙ ap checked_number t in
-      let f' : q ≡ p = f ∙ ap checked_offset t in
-      (rw (e', f') (read-refused n p (sym a.0 ∙ t)), rw (e, f) a.1.1.1.1)
+  -- an accepted route is long enough for its fields
+  pub accepted_length : (a : Address) → Originator a ≡ route_checked s → 25 ≤ length s
+  accepted_length a h = route-length s (told-originator s a (sym h)).0
 
   read-accepted : (a : Address) (d e : List ℕ) → route_checked s ≡ Originator a
       → d ≡ stored (replicate 8 0) 0 (take 8 (drop 2 s)) → e ≡ stored (replicate 10 0) 0 (take 10 (drop 10 s))
@@ -55,12 +45,15 @@ module _ (s : List ℕ) where
       (stored-all (replicate 8 0) (take 8 (drop 2 s)) (length-take-le 8 (drop 2 s) (simp length-drop (omega arith))))
       (stored-all (replicate 10 0) (take 10 (drop 10 s)) (length-take-le 10 (drop 10 s) (simp length-drop (omega arith)))))
 
-  pub reads-accepted : (a : Address) (d e r o : List ℕ) (f : ℕ) → route_checked s ≡ Originator a
+  pub reads-accepted : (a : Address) (d e r o : List ℕ) (f : ℕ) → Originator a ≡ route_checked s
       → d ≡ stored (replicate 8 0) 0 (take 8 (drop 2 s)) → e ≡ stored (replicate 10 0) 0 (take 10 (drop 10 s))
       → r ≡ address_row a → f ≡ get_or r 0 0 → o ≡ octets_in (drop 1 r)
-      → Reads (read_as 0 0 d e f o)
+      → read_as 0 0 d e f o ≡ read_route s
   unfolding family_of octets_of_address
-  reads-accepted a d e r o f h p q u v w = (rw (v, w, u) (read-accepted a d e h p q), none refl refl)
+  reads-accepted a d e r o f h p q u v w = rw (v, w, u) (read-accepted a d e (sym h) p q)
+
+-- what the code of the reader goes by
+pub ruleset reading = (read_refused, accepted_length)
 
 -- AN ADDRESS IN A ROUTE
 abbrev pub part : List ℕ → List ℕ

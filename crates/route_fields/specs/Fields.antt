@@ -1,21 +1,37 @@
 -- The fields of an Ethernet Segment route, read and written (document 01, "The route"; document 02, M-105). What lies where is said in `route`.
+--   RouteRead                  == the reader's answer: 0, offset 0 and the fields, or a refusal number, its offset and zeros
 --   read_as n p d e f a        == the reader's answer with these fields
+--   told_fields r              == the answer that the reader's result r is
 --   read_route s               == the reader's answer
 --   bits_of r                  == how many bits the address r has in a route
 --   route_octets d e r         == the octets of the route with these three fields
 --   write_route_number d e r n  == the writer's answer, for a buffer of n octets
 --   route_written b d e r      == what a buffer holds after the writer, where it held b
-use Rattle.std.specs.Prelude.{ℕ, ◌-◌, ◌/◌, cond, not, List, [], ◌∷◌, ◌++◌, length, take, drop, replicate, ltb, eqb}
+use Rattle.std.specs.Prelude.{ℕ, ◌-◌, ◌/◌, cond, not, List, [], ◌∷◌, ◌++◌, length, take, drop, replicate, ltb, eqb, Result, Ok, Err}
 use Rattle.lists.specs.Checks.{first_refusal}
 use Rattle.address.specs.Address.{family_of, octets_of_address, is_zero}
 use Rattle.esi.specs.Reserved.{reserved}
 use Rattle.refusals.specs.Refusals.{wrong_length, esi_reserved, address_zero, buffer_short}
 use Rattle.route.specs.Route.{total_of, route_distinguisher, route_esi, route_address, route_number, route_offset}
-use Rattle.route_fields.specs.declared.RouteRead.{RouteRead}
+use Rattle.refusals.specs.Numbers.{refusal_number}
+use Rattle.refusals.specs.declared.RefusalAt.{RefusalAt}
+use Rattle.route_fields.specs.declared.RouteRead as read
+
+pub record RouteRead : Type 0 where
+  pub number : ℕ
+  pub offset : ℕ
+  pub distinguisher : List ℕ
+  pub esi : List ℕ
+  pub family : ℕ
+  pub address : List ℕ
 
 -- a refusal's other numbers are zero, but for the offset
 abbrev pub read_as : ℕ → ℕ → List ℕ → List ℕ → ℕ → List ℕ → RouteRead
 read_as n p d e f a = record { number = n; offset = p; distinguisher = d; esi = e; family = f; address = a }
+
+abbrev pub told_fields : Result read.RouteRead RefusalAt → RouteRead
+told_fields (Ok x) = read_as 0 0 x.distinguisher x.esi x.family x.address
+told_fields (Err r) = read_as (refusal_number r.refusal) r.offset (replicate 8 0) (replicate 10 0) 0 (replicate 16 0)
 
 unfoldable pub read_route : List ℕ → RouteRead
 read_route s =

@@ -4,63 +4,47 @@
 ghost use Rattle.std.specs.Prelude.{◌≡◌, length, take};
 ghost use Rattle.address.specs.Address.{address_row, family_of, octets_of_address};
 ghost use Rattle.route.specs.Route.{total_of, Fault};
-ghost use Rattle.route_fields.specs.Fields.{bits_of, read_as, read_route, write_route_number, route_written};
+ghost use Rattle.route_fields.specs.Fields.{bits_of, read_as, read_route, told_fields, write_route_number, route_written};
+ghost use Rattle.refusals.specs.Numbers.{number_of};
 
 use address::{Address, Family};
-use refusals::{ADDRESS_ZERO, BUFFER_SHORT, ESI_RESERVED, WRONG_LENGTH};
-use route::Checked;
+use refusals::{Refusal, RefusalAt};
 
-// The answer of the reader: 0, offset 0 and the fields, or a refusal number, its offset and zeros. An IPv4 address is in the first four octets, then zeros.
+// The fields of a route. An IPv4 address is in the first four octets, then zeros.
 #[derive(Clone, Copy)]
 pub struct RouteRead {
-    pub number: u8,
-    pub offset: usize,
     pub distinguisher: [u8; 8],
     pub esi: [u8; 10],
     pub family: u8,
     pub address: [u8; 16],
 }
 
-// Reads a route: its distinguisher, identifier and originator, or the check's refusal and offset with zeros.
-pub fn read(s: &[u8]) -> RouteRead
-    ensures value { result ≡ read_route s.now }
-    ensures fault { Fault s.now result.number result.offset }
+// Reads a route: its distinguisher, identifier and originator, or the check's refusal and offset.
+#[tactic(auto, using(crate::proofs::Laws::reading))]
+pub fn read(s: &[u8]) -> Result<RouteRead, RefusalAt>
+    ensures value { told_fields result ≡ read_route s.now }
+    ensures fault { Fault s.now (told_fields result).number (told_fields result).offset }
 {
+    let a = route::check(s)?;
     let mut d = [0u8; 8];
     let mut e = [0u8; 10];
-    let checked = route::check(s);
-    let Checked::Originator(a) = checked else {
-        let n = route::number(checked);
-        let p = route::offset(checked);
-        return RouteRead {
-            number: n,
-            offset: p,
-            distinguisher: d,
-            esi: e,
-            family: 0,
-            address: [0u8; 16],
-        };
-    };
     octets::store(&mut d, 0, &s[2..10]);
     octets::store(&mut e, 0, &s[10..20]);
     let row = address::row(a);
     let o = address::octets(row[1], row[2], row[3], row[4]);
-    RouteRead {
-        number: 0,
-        offset: 0,
+    Ok(RouteRead {
         distinguisher: d,
         esi: e,
         family: row[0] as u8,
         address: o,
-    }
+    })
 }
 
 // How many bits an address has in a route.
 fn bits(a: Address) -> u8
     ensures { result ≡ bits_of (address_row a) }
 {
-    let family = a.family;
-    match family {
+    match a.family {
         Family::V4 => 32,
         Family::V6 => 128,
     }
@@ -68,24 +52,29 @@ fn bits(a: Address) -> u8
 
 // Writes a route into the first 25 octets of a buffer, or 37 for an IPv6 address: 1 for a distinguisher that is not eight octets, 4 for a reserved
 // identifier, 6 for address zero, 14 for a buffer of fewer octets; these leave the buffer as it is. Reading what was written gives the three back.
-pub fn write(buf: &mut [u8], distinguisher: &[u8], esi: &[u8], address: Address) -> u8
-    ensures number { result ≡ write_route_number distinguisher.now esi.now (address_row address) (length buf.old) }
+pub fn write(
+    buf: &mut [u8],
+    distinguisher: &[u8],
+    esi: &[u8],
+    address: Address,
+) -> Result<(), Refusal>
+    ensures number { number_of result ≡ write_route_number distinguisher.now esi.now (address_row address) (length buf.old) }
     ensures written { buf.new ≡ route_written buf.old distinguisher.now esi.now (address_row address) }
-    ensures reads { result ≡ 0 → read_route (take (total_of (bits_of (address_row address))) buf.new) ≡ read_as 0 0 distinguisher.now esi.now (family_of (address_row address)) (octets_of_address (address_row address)) }
+    ensures reads { number_of result ≡ 0 → read_route (take (total_of (bits_of (address_row address))) buf.new) ≡ read_as 0 0 distinguisher.now esi.now (family_of (address_row address)) (octets_of_address (address_row address)) }
 {
     if distinguisher.len() != 8 {
-        return WRONG_LENGTH;
+        return Err(Refusal::WrongLength);
     }
     if esi::is_reserved(esi) {
-        return ESI_RESERVED;
+        return Err(Refusal::EsiReserved);
     }
     if address::is_zero(address) {
-        return ADDRESS_ZERO;
+        return Err(Refusal::AddressZero);
     }
     let length = bits(address);
     let wanted = route::total(length);
     if buf.len() < wanted {
-        return BUFFER_SHORT;
+        return Err(Refusal::BufferShort);
     }
     let start = [4, (wanted - 2) as u8];
     let bits = [length];
@@ -95,5 +84,5 @@ pub fn write(buf: &mut [u8], distinguisher: &[u8], esi: &[u8], address: Address)
     octets::store(buf, 10, esi);
     octets::store(buf, 20, &bits);
     octets::store(buf, 21, &a[0..wanted - 21]);
-    0
+    Ok(())
 }

@@ -7,9 +7,9 @@ use lib.ListN.{length, get_or}
 use Rattle.keyed.specs.Keyed.{Rising}
 use Rattle.keyed.proofs.Keyed.{rank-le}
 use Rattle.rows.specs.Rows.{rows_in, row_key, key_order, found_in, middle, Within, looked, looks_between, looks_for}
-use Rattle.rows.specs.declared.Order.{Order}
-use Rattle.rows.specs.declared.Order.TheVariants.{Less, Equal, Greater}
-use Rattle.rows.specs.declared.Found.TheVariants.{At, Missing}
+use Rattle.std.specs.declared.cmp.Ordering.{Ordering}
+use Rattle.std.specs.declared.cmp.Ordering.TheVariants.{Less, Equal, Greater}
+use Rattle.std.specs.Prelude.{Ok, Err}
 use Rattle.rows.proofs.Compared.{is-less, is-more, is_same}
 use Rattle.rows.proofs.Looks.{looked-none, between-at, for-at, left-right, left-left, left-none}
 use Rattle.rows.proofs.Rows.{row_at, rows-length, rows_at, key-at, keys_length}
@@ -27,9 +27,9 @@ module _ (k n m : ℕ) (s : List ℕ) where
   within_all = let e = rows-length k n s in (omega arith, omega (arith, rank-le row_key m l, e), omega (arith, e), λ h. absurd (omega (arith, e, h)))
 
   -- WHAT IS LEFT after one of d looks, at the place `at` between lo and hi, by its outcome
-  abbrev pub Left : ℕ → ℕ → ℕ → ℕ → Order → Type 0
+  abbrev pub Left : ℕ → ℕ → ℕ → ℕ → Ordering → Type 0
   Left lo at hi d Less = Within m l (at + 1) hi × (d ≡ suc (length (looks_between m ks (at + 1) hi)))
-  Left lo at hi d Equal = (At at ≡ found_in row_key m l) × (d ≡ 1)
+  Left lo at hi d Equal = (Ok at ≡ found_in row_key m l) × (d ≡ 1)
   Left lo at hi d Greater = Within m l lo at × (d ≡ suc (length (looks_between m ks lo at)))
 
   module _ (rising : Rising row_key 0 l) (lo at hi f : ℕ) (w : Within m l lo hi) (p : lo ≤ at) (q : at < hi) (e : hi - lo ≤ f) where
@@ -45,7 +45,7 @@ module _ (k n m : ℕ) (s : List ℕ) where
     key : get_or ks at 0 ≡ row_key (row_at k s at)
     key = key-at k n s at inside
 
-    left : (o : Order) → o ≡ key_order (row_key (row_at k s at)) m → Left lo at hi (length (looked f m ks lo at hi)) o
+    left : (o : Ordering) → o ≡ key_order (row_key (row_at k s at)) m → Left lo at hi (length (looked f m ks lo at hi)) o
     left Less o =
         let below = is-less _ _ (sym o) in
         let r = look-less row_key m l 0 [] rising at used (rw row below) in
@@ -59,7 +59,7 @@ module _ (k n m : ℕ) (s : List ℕ) where
         ((w.0, r, omega (arith, used), λ _. rw row above), ap length (left-left m ks f lo at hi p q e (rw key above)))
 
   -- a first look at the place that is proposed
-  pub left-first : Rising row_key 0 l → (at : ℕ) → at < n → (o : Order) → o ≡ key_order (row_key (row_at k s at)) m → Left 0 at n (length (looks_for at m ks)) o
+  pub left-first : Rising row_key 0 l → (at : ℕ) → at < n → (o : Ordering) → o ≡ key_order (row_key (row_at k s at)) m → Left 0 at n (length (looks_for at m ks)) o
   left-first rising at h o told =
       let e = keys_length k n s in
       rw (for-at m ks at (omega (arith, e)), e) (left rising 0 at n n within_all (omega arith) h (omega arith) o told)
@@ -72,17 +72,17 @@ module _ (k n m : ℕ) (s : List ℕ) where
   next all d lo at hi w q e = (w, rw (← between-at m ks lo at hi e) q, λ h. (omega arith, omega arith))
 
   module _ (rising : Rising row_key 0 l) (all d lo at hi : ℕ) (v : Going all d lo at hi) where
-    pub going-none : hi ≤ lo → (Missing lo ≡ found_in row_key m l) × (d ≡ all)
+    pub going-none : hi ≤ lo → (Err lo ≡ found_in row_key m l) × (d ≡ all)
     going-none h =
         let w = v.0 in
         let e : lo ≡ hi = omega (arith, w.0, w.1) in
         (look_none row_key m l 0 [] rising lo (omega (arith, w.0, w.1)) (rw e w.3), omega (arith, v.1, ap length (looked-none m ks (hi - lo) lo at hi h)))
 
     module _ (h : lo < hi) where
-      after : (o : Order) → o ≡ key_order (row_key (row_at k s at)) m → Left lo at hi (length (looked (hi - lo) m ks lo at hi)) o
+      after : (o : Ordering) → o ≡ key_order (row_key (row_at k s at)) m → Left lo at hi (length (looked (hi - lo) m ks lo at hi)) o
       after = left rising lo at hi (hi - lo) v.0 (v.2 h).0 (v.2 h).1 (omega arith)
 
-      pub going-here : Equal ≡ key_order (row_key (row_at k s at)) m → (At at ≡ found_in row_key m l) × (d + 1 ≡ all)
+      pub going-here : Equal ≡ key_order (row_key (row_at k s at)) m → (Ok at ≡ found_in row_key m l) × (d + 1 ≡ all)
       going-here told = let r = after Equal told in (r.0, omega (arith, r.1, v.1))
 
       pub going-right : Less ≡ key_order (row_key (row_at k s at)) m → (i : ℕ) → i ≡ middle (at + 1) hi → Going all (d + 1) (at + 1) i hi

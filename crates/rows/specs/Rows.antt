@@ -22,10 +22,9 @@
 use Rattle.std.specs.Prelude.{ℕ, zero, suc, ◌+◌, ◌-◌, ◌*◌, ◌/◌, ◌^◌, ◌≤◌, ◌<◌, cond, List, [], ◌∷◌, ◌++◌, length, get_or, take, drop, replicate, ltb}
 use Rattle.std.proofs.Math.Seq.{paste}
 use Rattle.keyed.specs.Keyed.{has, rank}
-use Rattle.rows.specs.declared.Order.{Order}
-use Rattle.rows.specs.declared.Order.TheVariants.{Less, Equal, Greater}
-use Rattle.rows.specs.declared.Found.{Found}
-use Rattle.rows.specs.declared.Found.TheVariants.{At, Missing}
+use Rattle.std.specs.declared.cmp.Ordering.{Ordering}
+use Rattle.std.specs.declared.cmp.Ordering.TheVariants.{Less, Equal, Greater}
+use Rattle.std.specs.Prelude.{Result, Ok, Err}
 
 unfoldable pub rows_in : ℕ → ℕ → List ℕ → List (List ℕ)
 rows_in k zero s = []
@@ -45,11 +44,11 @@ row_key (w ∷ r) = w * 4294967296 ^ length r + row_key r
 unfoldable pub head_key : ℕ → ℕ → ℕ
 head_key k h = h * 4294967296 ^ (k - 2)
 
-unfoldable pub key_order : ℕ → ℕ → Order
+unfoldable pub key_order : ℕ → ℕ → Ordering
 key_order m n = cond (ltb m n) Less (cond (ltb n m) Greater Equal)
 
-unfoldable pub found_in : {A : Type 0} → (A → ℕ) → ℕ → List A → Found
-found_in key m l = cond (has key m l) (At (rank key m l)) (Missing (rank key m l))
+unfoldable pub found_in : {A : Type 0} → (A → ℕ) → ℕ → List A → Result ℕ ℕ
+found_in key m l = cond (has key m l) (Ok (rank key m l)) (Err (rank key m l))
 
 abbrev pub middle : ℕ → ℕ → ℕ
 middle lo hi = lo + (hi - lo) / 2

@@ -7,25 +7,12 @@ ghost use Rattle.std.specs.Prelude.{◌≡◌, true, false, map, ◌+◌, ◌-�
 ghost use Rattle.keyed.specs.Keyed.{Rising, rank};
 ghost use Rattle.rows.specs.Rows.{rows_in, row_key, head_key, key_order, found_in, middle, Within, looked, looks_between, first_look, looks_for};
 
-// How one row stands to another.
-#[derive(Clone, Copy)]
-pub enum Order {
-    Less,
-    Equal,
-    Greater,
-}
+use std::cmp::Ordering;
 
-// The place of a row, or the place at which it would stand.
-#[derive(Clone, Copy)]
-pub enum Found {
-    At(usize),
-    Missing(usize),
-}
-
-// The answer of a search: the row's place, and how many rows were compared with it.
+// The answer of a search: the row's place, or the place at which it would stand, as std's `binary_search` tells them; and how many rows were compared with it.
 #[derive(Clone, Copy)]
 pub struct Lookup {
-    pub found: Found,
+    pub found: Result<usize, usize>,
     pub looks: u32,
 }
 
@@ -49,7 +36,7 @@ fn turned(x: u64) -> u64
 
 // The row that starts at word `at`, against a key of as many words: the first words that differ decide. Words are compared two at a time, and the last of an odd
 // number by itself.
-pub fn compare(s: &[u32], at: usize, key: &[u32]) -> Order
+pub fn compare(s: &[u32], at: usize, key: &[u32]) -> Ordering
     requires { at + length key.now ≤ length s.now }
     ensures { result ≡ key_order (row_key (take (length key.now) (drop at s.now))) (row_key key.now) }
 {
@@ -59,24 +46,14 @@ pub fn compare(s: &[u32], at: usize, key: &[u32]) -> Order
         let x = pair_at(s, at + i);
         let y = pair_at(key, i);
         if x != y {
-            if turned(x) < turned(y) {
-                return Order::Less;
-            }
-            return Order::Greater;
+            return turned(x).cmp(&turned(y));
         }
         i += 2;
     }
     if i < k {
-        let x = s[at + i];
-        let y = key[i];
-        if x != y {
-            if x < y {
-                return Order::Less;
-            }
-            return Order::Greater;
-        }
+        return s[at + i].cmp(&key[i]);
     }
-    Order::Equal
+    Ordering::Equal
 }
 
 // The place in the middle of a range.
@@ -114,23 +91,23 @@ fn seek(s: &[u32], n: usize, from: usize, to: usize, first: usize, made: u32, ke
         let at = look * k;
         let order = compare(s, at, key);
         match order {
-            Order::Equal => {
+            Ordering::Equal => {
                 return Lookup {
-                    found: Found::At(look),
+                    found: Ok(look),
                     looks: looks,
                 };
             }
-            Order::Less => {
+            Ordering::Less => {
                 lo = look + 1;
             }
-            Order::Greater => {
+            Ordering::Greater => {
                 hi = look;
             }
         }
         look = halfway(lo, hi);
     }
     Lookup {
-        found: Found::Missing(lo),
+        found: Err(lo),
         looks: looks,
     }
 }
@@ -147,18 +124,18 @@ pub fn search_between(s: &[u32], n: usize, from: usize, to: usize, made: u32, ke
 
 // Goes on from one look among n rows, at the place `at`, with the outcome `order`: the key is there, or it is looked up in what is left on its side. The row at that place is
 // not compared again.
-pub fn after_look(s: &[u32], n: usize, at: usize, order: Order, key: &[u32]) -> Lookup
+pub fn after_look(s: &[u32], n: usize, at: usize, order: Ordering, key: &[u32]) -> Lookup
     requires { (n * length key.now ≤ length s.now) × Rising row_key 0 (rows_in (length key.now) n s.now) × (at < n) × (order ≡ key_order (row_key (take (length key.now) (drop (at * length key.now) s.now))) (row_key key.now)) × (n < 2 ^ 32) }
     ensures found { result.found ≡ found_in row_key (row_key key.now) (rows_in (length key.now) n s.now) }
     ensures looks { result.looks ≡ length (looks_for at (row_key key.now) (map row_key (rows_in (length key.now) n s.now))) }
 {
     match order {
-        Order::Equal => Lookup {
-            found: Found::At(at),
+        Ordering::Equal => Lookup {
+            found: Ok(at),
             looks: 1,
         },
-        Order::Less => search_between(s, n, at + 1, n, 1, key),
-        Order::Greater => search_between(s, n, 0, at, 1, key),
+        Ordering::Less => search_between(s, n, at + 1, n, 1, key),
+        Ordering::Greater => search_between(s, n, 0, at, 1, key),
     }
 }
 

@@ -22,14 +22,11 @@ pub struct Begun {
 }
 
 // Whether a run has ended: nothing more is looked at.
+#[tactic(auto, unfolding(records::specs::Records::is_end))]
 pub fn ended(phase: Phase) -> bool
     ensures { result ≡ is_end phase }
 {
-    match phase {
-        Phase::Start => false,
-        Phase::Running => false,
-        Phase::Ended => true,
-    }
+    matches!(phase, Phase::Ended)
 }
 
 // The state in which a run starts: from it, the run on an input is the whole output for that input.
@@ -55,10 +52,7 @@ pub fn finish(phase: Phase, rest: &[u8], out: &mut [u8]) -> usize
     ensures answer { Put out.old 0 (end_of phase rest.now) result out.new }
     ensures run { (t : Table) → is_part (front rest.now) ≡ true → run_from (record { phase = phase; table = t }) rest.now ≡ end_of phase rest.now }
 {
-    if ended(phase) {
-        return 0;
-    }
-    if rest.len() == 0 {
+    if ended(phase) || rest.is_empty() {
         return 0;
     }
     answer_lines::put_bad(out, 0)

@@ -5,9 +5,10 @@
 ghost use Rattle.std.specs.Prelude.{◌≡◌, false};
 ghost use Rattle.tags.specs.Tags.{reserved_tag};
 ghost use Rattle.ranges.specs.Ranges.{algorithm_in};
+ghost use Rattle.refusals.specs.Numbers.{number_of};
 ghost use Rattle.settings.specs.Settings.{nothing_set, from_four_to_thirty, may_be_set, is_set, any_range, numbers_set, ranges_given, settings_in, ValidSettings, SettingsTold};
 
-use refusals::ALGORITHM_NOT_USABLE;
+use refusals::Refusal;
 
 // How many words the settings have.
 pub const WORDS: usize = 102;
@@ -56,23 +57,23 @@ fn may_be_set(source_group: u8, any_source: u8) -> bool
 }
 
 // Sets the number for (S,G) and the number for (*,G): 15 unless they are two different ones from 4 to 30, and then the old ones are kept.
-pub fn set_numbers(s: &mut [u32], source_group: u8, any_source: u8) -> u8
+pub fn set_numbers(s: &mut [u32], source_group: u8, any_source: u8) -> Result<(), Refusal>
     requires { ValidSettings s.old }
-    ensures answer { SettingsTold (numbers_set (settings_in s.old) source_group any_source) result s.new }
+    ensures answer { SettingsTold (numbers_set (settings_in s.old) source_group any_source) (number_of result) s.new }
     ensures kept { ValidSettings s.new }
 {
     if !may_be_set(source_group, any_source) {
-        return ALGORITHM_NOT_USABLE;
+        return Err(Refusal::AlgorithmNotUsable);
     }
     s[SOURCE_GROUP] = source_group as u32;
     s[ANY_SOURCE] = any_source as u32;
-    0
+    Ok(())
 }
 
 // Sets the ranges that a run of numbers names, three to a range: 20 for ranges that may not be set, and then the old ones are kept.
-pub fn set_ranges(s: &mut [u32], run: &[u32]) -> u8
+pub fn set_ranges(s: &mut [u32], run: &[u32]) -> Result<(), Refusal>
     requires { ValidSettings s.old }
-    ensures answer { SettingsTold (ranges_given (settings_in s.old) run.now) result s.new }
+    ensures answer { SettingsTold (ranges_given (settings_in s.old) run.now) (number_of result) s.new }
     ensures kept { ValidSettings s.new }
 {
     tag_ranges::set(&mut s[RANGES..], run)

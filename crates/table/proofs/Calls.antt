@@ -8,6 +8,9 @@ use mathlib.Core.Logic.{◌⊎◌, inl, inr, ⊎_elim}
 use lib.ListN.{length, set, replicate}
 use lib.Dec.{ltb, eqb}
 use borrow.Author.Tests.{not-false, lt-ltb, le-ltb, ne_eqb, eqb-true}
+use Rattle.std.specs.Prelude.{Err}
+use Rattle.refusals.specs.Numbers.{refusal_number}
+use Rattle.refusals.specs.declared.Refusal.{Refusal}
 use Rattle.lists.specs.Checks.{first_refusal}
 use Rattle.lists.specs.Lists.{Every}
 use Rattle.lists.proofs.Bools.{cond-by, eq-not, ne-not}
@@ -18,22 +21,20 @@ use Rattle.address.specs.Address.{address_row, address_key, is_zero}
 use Rattle.address.specs.declared.Address.{Address}
 use Rattle.address.proofs.Laws.{key_above}
 use Rattle.esi.specs.Reserved.{reserved}
-use Rattle.route.specs.Route.{route_esi, route_address, route_number, route_offset, Fault, checked_number, checked_offset, route_checked}
-use Rattle.route.specs.declared.Checked.{Checked}
-use Rattle.route.specs.declared.Checked.TheVariants.{Originator, Refused}
+use Rattle.route.specs.Route.{route_esi, route_address, route_number, route_offset, Fault, route_checked, Originator, Refused}
 use Rattle.route.proofs.Laws.{route-fault, route-is-address, route-esi, route-address, offset-accepted, told-originator, told-refused}
-use Rattle.community.specs.Community.{list_fits, election_in, read_list}
-use Rattle.community.specs.declared.ListRead.{ListRead}
+use Rattle.community.specs.Community.{ListRead, told_list, list_fits, election_in, read_list}
 use Rattle.community.proofs.Laws.{list-refused, list-accepted, election-right}
 use Rattle.keyed.specs.Keyed.{spliced, without_at, Rising, has, insert, remove}
 use Rattle.keyed.proofs.Keyed as keyed
 use Rattle.keyed.proofs.Order.{length-insert-room, length-remove-le}
 use Rattle.rows.specs.Rows.{found_in}
-use Rattle.rows.specs.declared.Found.TheVariants.{At, Missing}
+use Rattle.std.specs.Prelude.{Ok, Err}
 use Rattle.rows.proofs.Places.{found_at, found-missing, insert-at, insert-missing, remove-at}
 use Rattle.layout.specs.Table.{Entry, entry_key, no_entry, entry_of, EntryRight, AddressRight, Table, table_of, WellFormed, owner_of}
 use Rattle.table.specs.Table.{Change, announce_number, withdraw_number, changed, fresh_table, announced, withdrawn}
 use Rattle.table.specs.Steps.{admitted}
+use Rattle.refusals.proofs.Laws.{refusal_above}
 
 abbrev accepted : Table → Change
 accepted t = record { number = 0; offset = 0; table = t }
@@ -65,30 +66,27 @@ module _ (t : Table) (w : WellFormed t) where
 
   -- AN ENTRY that passed the checks before the last
   module _ (e : Entry) (i : ℕ) where
-    pub admitted-at : found_in entry_key (entry_key e) es ≡ At i → accepted (table_of t.esi (set es i e)) ≡ admitted t e
+    pub admitted-at : found_in entry_key (entry_key e) es ≡ Ok i → accepted (table_of t.esi (set es i e)) ≡ admitted t e
     unfolding admitted first_refusal
     admitted-at h =
         rw ((found_at entry_key (entry_key e) es i h).0, insert-at entry_key (entry_key e) es 1 no_entry w.rising e i refl h)
 
-    pub admitted-new : found_in entry_key (entry_key e) es ≡ Missing i → length es < 64 → accepted (table_of t.esi (spliced es i e)) ≡ admitted t e
+    pub admitted-new : found_in entry_key (entry_key e) es ≡ Err i → length es < 64 → accepted (table_of t.esi (spliced es i e)) ≡ admitted t e
     unfolding admitted first_refusal
     admitted-new h s =
         rw ((found-missing entry_key (entry_key e) es i h).0, lt-ltb _ _ s, insert-missing entry_key (entry_key e) es e no_entry i refl h)
 
-    pub admitted-full : found_in entry_key (entry_key e) es ≡ Missing i → 64 ≤ length es → refused 8 t ≡ admitted t e
+    pub admitted-full : found_in entry_key (entry_key e) es ≡ Err i → 64 ≤ length es → refused 8 t ≡ admitted t e
     unfolding admitted first_refusal
     admitted-full h s = rw ((found-missing entry_key (entry_key e) es i h).0, le-ltb _ _ s)
 
   -- ANNOUNCEMENTS
   module _ (r c : List ℕ) where
-    pub announced-refused : (k : Checked) (n p m q : ℕ) → k ≡ route_checked r → k ≡ Refused n p → m ≡ checked_number k → q ≡ checked_offset k
-        → record { number = m; offset = q; table = t } ≡ announced t r c
+    pub announced-refused : (n p : ℕ) → route_checked r ≡ Refused n p → record { number = n; offset = p; table = t } ≡ announced t r c
     unfolding announced announce_number
-    announced-refused k n p m q e h f g =
-        let told = told-refused r n p (sym e ∙ h) in
-        let f' : m ≡ route_number r = f ∙ ap checked_number h ∙ told.1.0 in
-        let g' : q ≡ route_offset r = g ∙ ap checked_offset h ∙ told.1.1 in
-        rw (f', g') (refuses t _ (refused-at 0 _ tt (ne-not told.0)) refl told.0)
+    announced-refused n p h =
+        let told = told-refused r n p h in
+        rw (told.1.0, told.1.1) (refuses t _ (refused-at 0 _ tt (ne-not told.0)) refl told.0)
 
     announced-admitted : route_number r ≡ 0 → same_numbers t.esi (route_esi r) ≡ true → list_fits c ≡ true → admitted t (entry_of (route_address r) (election_in c)) ≡ announced t r c
     unfolding announced announce_number admitted
@@ -103,11 +101,13 @@ module _ (t : Table) (w : WellFormed t) where
       unfolding announced announce_number
       differs s = alike t _ (refused-at 1 _ (eq-not route, tt) (ap not s)) (sym (offset-accepted r route))
 
-      pub unread : (l : ListRead) → same_numbers t.esi (route_esi r) ≡ true → l ≡ read_list c → (l.number ≡ 0 → ⊥) → refused 7 t ≡ announced t r c
-      unfolding announced announce_number
-      unread l s q n =
-          let f = list-refused c (λ e. n (ap (λ (x : ListRead). x.number) q ∙ e)) in
-          alike t _ (refused-at 2 _ (eq-not route, (ap not s, tt)) (ap not f)) (sym (offset-accepted r route))
+      pub unread : (x : Refusal) → same_numbers t.esi (route_esi r) ≡ true → told_list (Err x) ≡ read_list c → refused (refusal_number x) t ≡ announced t r c
+      unfolding announced announce_number read_list
+      unread x s q =
+          let n : refusal_number x ≡ (read_list c).number = ap (λ (l : ListRead). l.number) q in
+          let f = list-refused c (λ e. absurd (omega (arith, refusal_above x, n, e))) in
+          let m : (read_list c).number ≡ 7 = rw f in
+          rw (n, m) (alike t _ (refused-at 2 _ (eq-not route, (ap not s, tt)) (ap not f)) (sym (offset-accepted r route)))
 
       pub done : (l : ListRead) (e : Entry) (x : Change) → same_numbers t.esi (route_esi r) ≡ true → l ≡ read_list c → l.number ≡ 0
           → e ≡ entry_of (address_row a) l.election → x ≡ admitted t e → x ≡ announced t r c
@@ -124,11 +124,11 @@ module _ (t : Table) (w : WellFormed t) where
     unfolding withdrawn withdraw_number
     withdrawn-zero z = alike t _ (refused-at 0 _ tt z) refl
 
-    pub withdrawn-missing : (i : ℕ) → is_zero a ≡ false → found_in entry_key (address_key a) es ≡ Missing i → refused 9 t ≡ withdrawn t a
+    pub withdrawn-missing : (i : ℕ) → is_zero a ≡ false → found_in entry_key (address_key a) es ≡ Err i → refused 9 t ≡ withdrawn t a
     unfolding withdrawn withdraw_number
     withdrawn-missing i z h = alike t _ (refused-at 1 _ (z, tt) (ap not (found-missing entry_key (address_key a) es i h).0)) refl
 
-    pub withdrawn-at : (i : ℕ) → is_zero a ≡ false → found_in entry_key (address_key a) es ≡ At i → accepted (table_of t.esi (without_at es i)) ≡ withdrawn t a
+    pub withdrawn-at : (i : ℕ) → is_zero a ≡ false → found_in entry_key (address_key a) es ≡ Ok i → accepted (table_of t.esi (without_at es i)) ≡ withdrawn t a
     unfolding withdrawn withdraw_number
     withdrawn-at i z h =
         let f = found_at entry_key (address_key a) es i h in

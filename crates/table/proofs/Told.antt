@@ -14,13 +14,12 @@ use Rattle.address.specs.Address.{address_key, IsAddress, is_zero}
 use Rattle.address.proofs.Laws.{key-injective, length-address}
 use Rattle.route.specs.Route.{route_address, route_number, Fault}
 use Rattle.community.specs.declared.Election.{Election}
-use Rattle.community.specs.Community.{election_in, read_list}
-use Rattle.community.specs.declared.ListRead.{ListRead}
+use Rattle.community.specs.Community.{ListRead, election_in, read_list}
 use Rattle.community.proofs.Laws.{list-accepted}
 use Rattle.keyed.specs.Keyed.{spliced, without_at, has, insert, remove}
 use Rattle.keyed.proofs.Keyed as keyed
 use Rattle.rows.specs.Rows.{column, flat, found_in}
-use Rattle.rows.specs.declared.Found.TheVariants.{At, Missing}
+use Rattle.std.specs.Prelude.{Ok, Err}
 use Rattle.rows.proofs.Compared.{Words, words-part}
 use Rattle.rows.proofs.Places.{present-at, at_lt}
 use Rattle.layout.specs.Table.{Entry, entry_key, no_entry, entry_of, AddressRight, Table, table_of, WellFormed, owner_of}
@@ -71,25 +70,25 @@ module _ (b : List ℕ) (h : Valid b) where
   -- AN ENTRY that passed the checks before the last
   module _ (a : List ℕ) (w i : ℕ) (e : Election) (p : Packed e w) where
     -- the address that is found stands there already
-    same_address : IsAddress a → Words a → Words b → found_in entry_key (address_key a) es ≡ At i → (get_or es i no_entry).address ≡ a
+    same_address : IsAddress a → Words a → Words b → found_in entry_key (address_key a) es ≡ Ok i → (get_or es i no_entry).address ≡ a
     same_address g u v f =
         let r = (get_or es i no_entry).address in
         let l = at_lt entry_key (address_key a) es 1 no_entry h.sound.rising i f in
         let n : length r ≡ length a = length-address r (every_in AddressRight es i no_entry h.sound.addresses l).0 ∙ sym (length-address a g) in
         key-injective r a n (rw (← address-row b h i l) (words-part 5 (i * 5) b v)) u (present-at entry_key (address_key a) es 1 no_entry h.sound.rising i f).1
 
-    same-entry : IsAddress a → Words a → Words b → found_in entry_key (address_key a) es ≡ At i → entry_in (get_or es i no_entry).address (w ∷ []) ≡ entry_of a e
+    same-entry : IsAddress a → Words a → Words b → found_in entry_key (address_key a) es ≡ Ok i → entry_in (get_or es i no_entry).address (w ∷ []) ≡ entry_of a e
     same-entry g u v f = ap (λ (x : List ℕ). entry_in x (w ∷ [])) (same_address g u v f) ∙ packed-entry a w e p
 
-    pub told_at : IsAddress a → Words a → Words b → found_in entry_key (address_key a) es ≡ At i → (x : List ℕ) → x ≡ words_of (table_of t.esi (set es i (entry_in (get_or es i no_entry).address (w ∷ [])))) → Stored (admitted t (entry_of a e)) 0 x
+    pub told_at : IsAddress a → Words a → Words b → found_in entry_key (address_key a) es ≡ Ok i → (x : List ℕ) → x ≡ words_of (table_of t.esi (set es i (entry_in (get_or es i no_entry).address (w ∷ [])))) → Stored (admitted t (entry_of a e)) 0 x
     told_at g u v f x q =
         stored_of (admitted t (entry_of a e)) _ x (calls.admitted-at t h.sound (entry_of a e) i f) (q ∙ ap (λ (y : Entry). words_of (table_of t.esi (set es i y))) (same-entry g u v f))
 
-    pub told-new : found_in entry_key (address_key a) es ≡ Missing i → length es < 64 → (x : List ℕ) → x ≡ words_of (table_of t.esi (spliced es i (entry_in a (w ∷ [])))) → Stored (admitted t (entry_of a e)) 0 x
+    pub told-new : found_in entry_key (address_key a) es ≡ Err i → length es < 64 → (x : List ℕ) → x ≡ words_of (table_of t.esi (spliced es i (entry_in a (w ∷ [])))) → Stored (admitted t (entry_of a e)) 0 x
     told-new f s x q =
         stored_of (admitted t (entry_of a e)) _ x (calls.admitted-new t h.sound (entry_of a e) i f s) (q ∙ ap (λ (y : Entry). words_of (table_of t.esi (spliced es i y))) (packed-entry a w e p))
 
-    pub told-full : found_in entry_key (address_key a) es ≡ Missing i → 64 ≤ length es → Stored (admitted t (entry_of a e)) 8 b
+    pub told-full : found_in entry_key (address_key a) es ≡ Err i → 64 ≤ length es → Stored (admitted t (entry_of a e)) 8 b
     told-full f s = stored_of (admitted t (entry_of a e)) _ b (calls.admitted-full t h.sound (entry_of a e) i f s) h.whole
 
   -- THE WORDS stay a table's
@@ -121,10 +120,10 @@ module _ (b : List ℕ) (h : Valid b) where
     pub withdrawn-zero : is_zero a ≡ true → Withdrawn 6 b
     withdrawn-zero z = (unchanged (withdrawn t a) 6 0 (calls.withdrawn-zero t h.sound a z), h)
 
-    pub withdrawn-missing : (i : ℕ) → is_zero a ≡ false → found_in entry_key (address_key a) es ≡ Missing i → Withdrawn 9 b
+    pub withdrawn-missing : (i : ℕ) → is_zero a ≡ false → found_in entry_key (address_key a) es ≡ Err i → Withdrawn 9 b
     withdrawn-missing i z f = (unchanged (withdrawn t a) 9 0 (calls.withdrawn-missing t h.sound a i z f), h)
 
-    pub withdrawn-at : (i : ℕ) → is_zero a ≡ false → found_in entry_key (address_key a) es ≡ At i → (x : List ℕ) → x ≡ words_of (table_of t.esi (without_at es i)) → Withdrawn 0 x
+    pub withdrawn-at : (i : ℕ) → is_zero a ≡ false → found_in entry_key (address_key a) es ≡ Ok i → (x : List ℕ) → x ≡ words_of (table_of t.esi (without_at es i)) → Withdrawn 0 x
     withdrawn-at i z f x q = withdrawn-valid 0 x (stored_of (withdrawn t a) _ x (calls.withdrawn-at t h.sound a i z f) q)
 
   -- ANNOUNCEMENTS
@@ -167,3 +166,6 @@ length_part r h = length-take-le 10 (drop 10 r) (omega (arith, length-drop 10 r)
 pub admitted-offset : (t : Table) (e : Entry) → 0 ≡ (admitted t e).offset
 unfolding admitted
 admitted-offset t e = refl
+
+-- what shows what `withdraw` answers where it refuses, and that the place found is one of the entries
+pub ruleset withdrawing = (withdrawn-zero, withdrawn-missing, at_lt)

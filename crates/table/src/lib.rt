@@ -2,58 +2,52 @@
 // A refused call leaves them as they were. The call that announces a route is in `announcing`.
 #![tactic(auto)]
 
+ghost use Rattle.refusals.specs.Numbers.{number_of};
 ghost use Rattle.address.specs.Address.{address_row};
 ghost use Rattle.layout.specs.Words.{table_in, Valid};
 ghost use Rattle.table.specs.Table.{fresh_table, withdrawn, Told};
 
 use address::Address;
 pub use layout::WORDS;
-use refusals::{ADDRESS_ZERO, NOT_PRESENT};
-use rows::Found;
+use refusals::Refusal;
 
 // The preference that a configuration would start from (RFC 9785); no rule of the table uses it.
 pub const DEFAULT_PREFERENCE: u16 = 32767;
 
-// A fresh table: 0 or a refusal number, and the words of the table.
+// A fresh table: whether the identifier is refused, and the words of the table, which is empty either way.
 #[derive(Drop)]
 pub struct Made {
-    pub number: u8,
+    pub answer: Result<(), Refusal>,
     pub table: [u32; WORDS],
-}
-
-// The answer to an announcement: 0 or a refusal number, and the offset that a route's refusal speaks of (else 0).
-#[derive(Clone, Copy)]
-pub struct Verdict {
-    pub number: u8,
-    pub offset: usize,
 }
 
 // A fresh table for an identifier. For a reserved one, or one that is not ten octets, 4 and the empty table of the all-zero identifier.
 pub fn fresh(esi: &[u8]) -> Made
-    ensures answer { Told (fresh_table esi.now) result.number 0 result.table }
+    ensures answer { Told (fresh_table esi.now) (number_of result.answer) 0 result.table }
     ensures kept { Valid result.table }
 {
     let mut words = [0u32; WORDS];
-    let number = owner::give(&mut words, esi);
+    let answer = owner::give(&mut words, esi);
     Made {
-        number: number,
+        answer,
         table: words,
     }
 }
 
 // Withdraws an address: 6 for address zero, 9 for one that is not present. The freed place is zero and can be filled again.
-pub fn withdraw(t: &mut [u32], address: Address) -> u8
+#[tactic(auto, using(crate::proofs::Told::withdrawing))]
+pub fn withdraw(t: &mut [u32], address: Address) -> Result<(), Refusal>
     requires { Valid t.old }
-    ensures answer { Told (withdrawn (table_in t.old) (address_row address)) result 0 t.new }
+    ensures answer { Told (withdrawn (table_in t.old) (address_row address)) (number_of result) 0 t.new }
     ensures kept { Valid t.new }
 {
     if address::is_zero(address) {
-        return ADDRESS_ZERO;
+        return Err(Refusal::AddressZero);
     }
     let found = entries::find(t, address);
-    let Found::At(at) = found else {
-        return NOT_PRESENT;
+    let Ok(at) = found else {
+        return Err(Refusal::NotPresent);
     };
     entries::shrink(t, at);
-    0
+    Ok(())
 }

@@ -85,13 +85,6 @@ module _ (l m : List (List ℕ)) (w : List ℕ) where
   unfolding ranges_set
   same-ranges z = by-test (may_be_ranges w) (λ e. rw e) (λ e. absurd (omega (arith, sym (rw e at z))))
 
--- the number goes by the run alone
-pub number_alike : (l : List (List ℕ)) (w : List ℕ) → (ranges_set l w).number ≡ (ranges_set [] w).number
-number_alike l w = same_number l [] w
-
--- what a run that is refused leaves
-pub ruleset refused_run = (number_alike, ranges.ranges-refused)
-
 -- words put before others, in place of as many
 none-taken : (l : List ℕ) → take 0 l ≡ []
 none-taken [] = refl

@@ -5,7 +5,10 @@
 ghost use Rattle.std.specs.Prelude.{◌≡◌, false, not, eqb, length};
 ghost use Rattle.tags.specs.Tags.{reserved_tag};
 ghost use Rattle.ranges.specs.Ranges.{ranges_set, algorithm_in};
+ghost use Rattle.refusals.specs.Numbers.{number_of};
 ghost use Rattle.tag_ranges.specs.TagRanges.{tag_ranges_in, ValidTagRanges, TagRangesTold};
+
+use refusals::Refusal;
 
 // How many words they have.
 pub const WORDS: usize = 100;
@@ -14,20 +17,20 @@ pub const WORDS: usize = 100;
 const INDEX: usize = 49;
 
 // Sets the ranges that a run of numbers names, three to a range, as `ranges::set` does, and makes their index; refused ones leave all words.
-#[tactic(auto, using(crate::proofs::Laws::refused_run))]
-pub fn set(b: &mut [u32], run: &[u32]) -> u8
+pub fn set(b: &mut [u32], run: &[u32]) -> Result<(), Refusal>
     requires { ValidTagRanges b.old }
-    ensures answer { TagRangesTold (ranges_set (tag_ranges_in b.old) run.now) result b.new }
+    ensures answer { TagRangesTold (ranges_set (tag_ranges_in b.old) run.now) (number_of result) b.new }
     ensures kept { ValidTagRanges b.new }
 {
     let mut words = ranges::fresh();
-    let number = ranges::set(&mut words, run);
-    if number != 0 {
-        return number;
+    let answer = ranges::set(&mut words, run);
+    let refused = answer.is_err();
+    if refused {
+        return answer;
     }
     gaps::insert(b, 0, 0, &words);
     range_index::index(&mut b[INDEX..], &words);
-    0
+    Ok(())
 }
 
 // Whether any range is set.

@@ -26,14 +26,12 @@ use Rattle.ready.specs.Ready.{on_list, candidates, candidate_set}
 use Rattle.circuit_ready.specs.Routers.{ready_routers}
 use Rattle.circuit_ready.proofs.Laws.{length-routers}
 use Rattle.winner.specs.Winner.{elected}
-use Rattle.answers.specs.Answers.{Method, answer_by}
-use Rattle.answers.specs.declared.Answer.{Answer}
+use Rattle.answers.specs.Answers.{Answer, Method, answer_by}
 use Rattle.answers.proofs.Laws.{names-by, elected-in, forwarder-by}
 use Rattle.tags.specs.Tags.{reserved_tag}
 use Rattle.election.specs.Queries.{plain, method_for, method_of, candidates_of}
 use Rattle.election.proofs.Laws.{passes}
-use Rattle.backup.specs.declared.Backup.{Backup}
-use Rattle.backup.specs.Backup.{refused_backup, backup_with, SecondInLine}
+use Rattle.backup.specs.Backup.{Backup, refused_backup, backup_with, SecondInLine}
 use Rattle.circuit_election.specs.Over.{elect_over}
 use Rattle.forwarders.specs.Forwarders.{elect_in, Names}
 use Rattle.bystander.proofs.Members.{candidate-of, candidate-in, eligible-alike, on-routers}

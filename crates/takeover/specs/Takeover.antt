@@ -10,8 +10,8 @@ use Rattle.layout.specs.Table.{Entry}
 use Rattle.table.specs.Table.{withdrawn}
 use Rattle.segment_state.specs.State.{Segment}
 use Rattle.election.specs.Queries.{plain}
-use Rattle.answers.specs.declared.Answer.{Answer}
-use Rattle.backup.specs.declared.Backup.{Backup}
+use Rattle.answers.specs.Answers.{Answer}
+use Rattle.backup.specs.Backup.{Backup}
 use Rattle.forwarders.specs.Forwarders.{elect_in, elect_circuits, Names}
 
 abbrev pub without_router : Segment → List ℕ → Segment

@@ -3,20 +3,18 @@ use Prim.Native.Nat.{ℕ, ◌-◌, ◌≤◌}
 use native.Mathlib.Omega.{arith}
 use mathlib.Core.Path.{◌≡◌, refl, ap, ◌∙◌, sym, subst}
 use mathlib.Core.Bool.{Bool}
-use mathlib.Core.List.{List, [], ◌∷◌, ◌++◌, append-nil}
-use lib.ListN.{length, get_or, take, drop, length-drop, drop_of_length-le}
+use mathlib.Core.List.{List, [], ◌∷◌}
+use lib.ListN.{length, get_or, take, drop, length-drop}
 use lib.Seq.{take_all}
 use borrow.Author.Tests.{eq-eqb, ne_eqb}
 use Rattle.octets.specs.Octets.{number_of}
-use Rattle.octets.proofs.Laws.{front-all}
-use Rattle.esi.specs.declared.TextRead.{TextRead}
-use Rattle.esi.specs.Text.{read_text}
+use Rattle.esi.specs.Text.{TextRead, read_text}
 use Rattle.route.specs.Route.{total_of}
 use Rattle.layout.specs.Table.{Table}
 use Rattle.table.specs.Table.{fresh_table, announced, withdrawn, Told}
 use Rattle.layout.specs.Words.{table_in, Valid}
 use Rattle.settings.specs.Settings.{Settings, nothing_set}
-use Rattle.answers.specs.declared.Answer.{Answer}
+use Rattle.answers.specs.Answers.{Answer}
 use Rattle.election.specs.Queries.{plain, elect_with}
 use Rattle.election.proofs.Laws.{elect-none}
 use Rattle.answer_lines.specs.AnswerLines.{line, read_line, query_line, Written}
@@ -87,8 +85,3 @@ module _ {d : List ℕ} {at n : ℕ} {e : List ℕ} where
 -- the same step, said of another turn
 pub stepped-as : {d : List ℕ} {at : ℕ} {u v : Turn} {r : Step} {w e : List ℕ} → Stepped d at u r w e → u ≡ v → Stepped d at v r w e
 stepped-as {d} {at} {u} {v} {r} {w} {e} s q = subst (λ (x : Turn). Stepped d at x r w e) q s
-
--- ---- words copied
-
-pub copied : (d s : List ℕ) (n : ℕ) → length s ≡ n → length d ≡ n → take n s ++ drop n d ≡ s
-copied d s n e l = front-all d s n e ∙ ap (s ++◌) (drop_of_length-le d {i = n} (omega arith)) ∙ append-nil s

@@ -42,9 +42,11 @@ pub fn announce(t: &mut [u32], payload: &[u8], out: &mut [u8], at: usize) -> Ste
     ensures { Stepped out.old at (announce_turn (table_in t.old) payload.now) result t.new out.new }
 {
     let n = route::total(payload[20]);
-    let verdict = announcing::announce(t, &payload[..n], &payload[n..]);
-    let number = verdict.number;
-    let offset = verdict.offset;
+    let answer = announcing::announce(t, &payload[..n], &payload[n..]);
+    let (number, offset) = match answer {
+        Ok(()) => (0, 0),
+        Err(told) => (told.refusal.number(), told.offset),
+    };
     let end = answer_lines::put_read(out, at, b'a', number, offset);
     Step {
         phase: Phase::Running,
@@ -58,7 +60,8 @@ pub fn withdraw(t: &mut [u32], v6: bool, payload: &[u8], out: &mut [u8], at: usi
     ensures { Stepped out.old at (withdraw_turn (table_in t.old) v6 payload.now) result t.new out.new }
 {
     let address = payloads::address_at(payload, 0, v6);
-    let number = table::withdraw(t, address);
+    let answer = table::withdraw(t, address);
+    let number = refusals::number(&answer);
     let end = answer_lines::put_line(out, at, b'w', number);
     Step {
         phase: Phase::Running,

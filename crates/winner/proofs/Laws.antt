@@ -188,6 +188,10 @@ module _ (b : List ℕ) (h : Valid b) {s : ℕ} (within : s < 2 ^ length (table_
       let rise = families-rise b h o _ _ (step-up es short step within m) (first_under r _ (step_left es short step within) short m) in
       omega (arith, k step.some, rise)
 
+-- a set of places in use that is not empty has some
+pub some_counted : (b : List ℕ) (s n : ℕ) → Valid b → s < 2 ^ length (table_in b).entries → (s ≡ 0 → ⊥) → n ≡ length (places s) → 0 < n
+some_counted b s n h under some e = rw e (some-places (table_in b).entries h.sound.short s under some)
+
 -- THE ENTRIES AT PLACES that rise have keys that rise
 module _ (es : List Entry) (short : length es ≤ 64) (rising : Rising entry_key 1 es) where
   entry_at : (ps : List ℕ) (i : ℕ) → get_or (entries_at es ps) i no_entry ≡ get_or es (get_or ps i 64) no_entry
@@ -231,9 +235,6 @@ module _ (es : List Entry) (short : length es ≤ 64) (rising : Rising entry_key
 
   -- THE ELECTED ONE
   module _ (s a tag d : ℕ) (under : s < 2 ^ length es) (some : s ≡ 0 → ⊥) where
-    pub remainder-there : (n : ℕ) → n ≡ length (places s) → 0 < n
-    remainder-there n e = rw e (some-places es short s under some)
-
     pub elected-nth : (r n : ℕ) → a ≡ 0 → n ≡ length (places s) → r ≡ get_or (places s) (tag % n) 64
         → (r < length es) × (get_or es r no_entry ≡ elected a tag d (entries_at es (places s)))
     unfolding elected

@@ -8,7 +8,7 @@ use Rattle.blocks.proofs.take_block.Statement.{statement}
 use Rattle.blocks.proofs.take_block.Tie as tie
 
 slice-aggregate-process : tie.Need-slice_bounds-process-end-2
-slice-aggregate-process c = sym (length-take-le _ _ (omega (arith, c.least-n.ensures)))
+slice-aggregate-process c = sym (length-take-le _ _ (omega (arith, c.min-n.ensures)))
 
 returns : tie.Need-returns
 returns c =
@@ -18,7 +18,7 @@ returns c =
     let a = l.args in
     let known = l.slice_known-2-1.given in
     let ran = p.process-p.ensures in
-    (block-taken a.filled c.least-n.result (λ i. omega (arith, known i)) c.least-n.ensures ran.0 ran.1.0 k.keep-left.ensures.0 k.keep-left.ensures.1 c.next_in-next.ensures, ran.1.1)
+    (block-taken a.filled c.min-n.result (λ i. omega (arith, known i)) c.min-n.ensures ran.0 ran.1.0 k.keep-left.ensures.0 k.keep-left.ensures.1 c.next_in-next.ensures, ran.1.1)
 
 pub take_block_spec : {M : Type 1} → statement M
 take_block_spec =

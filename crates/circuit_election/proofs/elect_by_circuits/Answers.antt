@@ -22,7 +22,7 @@ returns-then-is_reserved c =
     let w = c.requires.0.sound in
     let e = promised s plain t w c.args.tag (ready_routers routers c.args.tag t.entries)
     (elects-10 s plain t.esi t.entries c.args.tag (ready_routers routers c.args.tag t.entries) (sym c.is_reserved.ensures ∙ c.if-is_reserved.true)) in
-    rw c.refusal.ensures (record { answer = e.0; counted = e.1; none_named = e.2; forwarder = e.3; never_long = not_long s t routers c.args.tag w e })
+    record { answer = e.0; counted = e.1; none_named = e.2; forwarder = e.3; never_long = not_long s t routers c.args.tag w e }
 
 pub place_by_tag-at-requires : goal.place_by_tag-at-requires
 place_by_tag-at-requires c =

@@ -11,7 +11,7 @@ use Rattle.layout.specs.Table.{Entry, no_entry, Table}
 use Rattle.layout.specs.Words.{table_in}
 use Rattle.layout.proofs.Words.{narrow-entries}
 use Rattle.layout.proofs.Addresses.{words-in}
-use Rattle.log_octets.specs.Log.{log_of}
+use Rattle.log_octets.specs.Log.{log_of, logged_of}
 use Rattle.replays.specs.Played.{AnswersAlike}
 use Rattle.replays.proofs.Played.{answers-alike}
 use Rattle.compaction.specs.Compaction.{PlaysBack}
@@ -34,21 +34,21 @@ module _ (told : tie.After-write_log) where
   t = table_in b
 
   abbrev n : ℕ
-  n = told.write_log.result.number
+  n = (logged_of told.write_log.result).number
 
   abbrev x : List ℕ
-  x = take told.write_log.result.length told.write_log.new.out
+  x = take (logged_of told.write_log.result).length told.write_log.new.out
 
   wide : Words b
   wide j = (known.shared_slice_known-1.given j).fits
 
   run_is : n ≡ 0 → x ≡ log_of t
-  run_is z = run-written t start.args.out.now n told.write_log.result.length told.write_log.new.out told.write_log.ensures.0.0 told.write_log.ensures.0.1 told.write_log.ensures.1 z
+  run_is z = run-written t start.args.out.now n (logged_of told.write_log.result).length told.write_log.new.out told.write_log.ensures.0.0 told.write_log.ensures.0.1 told.write_log.ensures.1 z
 
   back : n ≡ 0 → PlaysBack (log_of t) t
   back z =
       plays-back t start.requires.sound
-      (not-reserved t start.args.out.now n told.write_log.result.length told.write_log.new.out told.write_log.ensures.0.0 told.write_log.ensures.0.1 told.write_log.ensures.1 z)
+      (not-reserved t start.args.out.now n (logged_of told.write_log.result).length told.write_log.new.out told.write_log.ensures.0.0 told.write_log.ensures.0.1 told.write_log.ensures.1 z)
       (λ k. every-at (λ (o : ℕ). o < 256) t.esi k 0 (omega arith) start.requires.octets)
       (every-place (λ (e : Entry). Words e.address) t.entries no_entry (λ k h. words-in b start.requires k h wide))
       (narrow-entries b start.requires)

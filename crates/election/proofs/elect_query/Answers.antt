@@ -15,7 +15,7 @@ returns-then-is_reserved c q n g f =
     let s = settings_in a.settings.now in
     let t = table_in a.t.now in
     let list = ready_in a.ready.now in
-    rw c.refusal.ensures (promised s q t c.requires.0.sound a.tag list (elects-10 s q t.esi t.entries a.tag list (sym c.is_reserved.ensures ∙ c.if-is_reserved.true)))
+    promised s q t c.requires.0.sound a.tag list (elects-10 s q t.esi t.entries a.tag list (sym c.is_reserved.ensures ∙ c.if-is_reserved.true))
 
 pub returns-then-not-right : goal.returns-then-not-right
 returns-then-not-right c q n g f =
@@ -25,7 +25,7 @@ returns-then-not-right c q n g f =
     let list = ready_in a.ready.now in
     let free : reserved_tag a.tag ≡ false = sym c.is_reserved.ensures ∙ c.if-is_reserved.false in
     let short : length list ≤ 64 = omega (arith, length-ready a.ready.now) in
-    rw c.refusal-then-not-right.ensures (promised s q t c.requires.0.sound a.tag list (elects-18 s q t.esi t.entries a.tag list free short (g ∙ c.if-not-right.true)))
+    promised s q t c.requires.0.sound a.tag list (elects-18 s q t.esi t.entries a.tag list free short (g ∙ c.if-not-right.true))
 
 pub returns-then-set-eq0 : goal.returns-then-set-eq0
 returns-then-set-eq0 c q n g f =
@@ -35,8 +35,7 @@ returns-then-set-eq0 c q n g f =
     let list = ready_in a.ready.now in
     let free : reserved_tag a.tag ≡ false = sym c.is_reserved.ensures ∙ c.if-is_reserved.false in
     let short : length list ≤ 64 = omega (arith, length-ready a.ready.now) in
-    rw c.refusal-then-set-eq0.ensures
-    (elects-12 s q t c.requires.0.sound a.tag list _ c.in_use-u.ensures free short (g ∙ c.if-not-right.false) _ c.candidate_set-set.ensures c.if-set-eq0.true)
+    elects-12 s q t c.requires.0.sound a.tag list _ c.in_use-u.ensures free short (g ∙ c.if-not-right.false) _ c.candidate_set-set.ensures c.if-set-eq0.true
 
 pub elected_place-at-requires : goal.elected_place-at-requires
 elected_place-at-requires c =

@@ -1,6 +1,6 @@
 -- `order_at` where the first parts differ: they decide. Both parts of a row are of the lengths that are compared. The check proves the rest. Assumes nothing.
 use Rattle.std.proofs.Common.{refl, sym, ◌∙◌}
-use Rattle.rows.specs.declared.Order.TheVariants.{Less, Greater}
+use Rattle.std.specs.declared.cmp.Ordering.TheVariants.{Less, Greater}
 use Rattle.entries.proofs.Lookups.{near, head-fits, tail-fits, head-decides}
 use Rattle.entries.proofs.order_at.Goals as goal
 

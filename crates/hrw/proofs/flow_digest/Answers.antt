@@ -9,22 +9,22 @@ use Rattle.hrw.proofs.flow_digest.Goals as goal
 
 pub loop-part-init : goal.loop-part-init
 unfolding register_at
-loop-part-init c = (omega arith, refl, refl)
+loop-part-init c = (refl, refl)
 
 pub loop-i-init : goal.loop-i-init
 loop-i-init c =
     let os : Every (λ o. o < 256) c.args.source.now = every-place (λ (x : ℕ). x < 256) c.args.source.now 0 (λ j _. (c.type_inv.source j).fits) in
     let og : Every (λ o. o < 256) c.args.group.now = every-place (λ (x : ℕ). x < 256) c.args.group.now 0 (λ j _. (c.type_inv.group j).fits) in
-    (omega arith, grind (arith, octets-part, last-part))
+    grind (arith, octets-part, last-part)
 
 pub loop-i-preserved : goal.loop-i-preserved
 loop-i-preserved c =
     let word = c.crc_word-r.ensures ∙ ap (λ (w : ℕ). crc_bits 32 (bit_xor c.loop-i.r w)) c.part_word.ensures in
-    (omega arith, words-on c.loop-i.r c.loop-i.i _ (omega (arith, c.part_len-n.ensures)) word ∙ c.loop-i.invariant.1)
+    words-on c.loop-i.r c.loop-i.i _ (omega (arith, c.part_len-n.ensures)) word ∙ c.loop-i.invariant
 
 pub loop-part-preserved : goal.loop-part-preserved
 loop-part-preserved c =
-    (omega arith, search rules, sym (words-end c.loop-i.r c.loop-i.i _ (omega (arith, c.part_len-n.ensures))) ∙ c.loop-i.invariant.1)
+    (search rules, sym (words-end c.loop-i.r c.loop-i.i _ (omega (arith, c.part_len-n.ensures))) ∙ c.loop-i.invariant)
 
 pub returns : goal.returns
-returns c = at-the-end c.loop-part.part c.loop-part.r c.args.source.now c.args.group.now c.args.tag c.args.esi (omega arith) c.loop-part.invariant.2
+returns c = at-the-end c.loop-part.part c.loop-part.r c.args.source.now c.args.group.now c.args.tag c.args.esi (omega arith) c.loop-part.invariant.1

@@ -8,6 +8,7 @@ use lib.ListN.{length, take, drop, length-drop}
 use lib.Seq.{length-take-le}
 use Rattle.octets.specs.Octets.{number_of}
 use Rattle.ready.specs.Ready.{ready_in}
+use Rattle.answers.specs.Answers.{answer_of}
 use Rattle.payloads.specs.Payloads.{size_of, addresses_in}
 use Rattle.payloads.proofs.Laws.{size-pos, addresses-few}
 use Rattle.queries.proofs.Ready.{ready-flat}
@@ -72,7 +73,7 @@ returns c =
     let none = el.before.before.before in
     let z = none.before in
     let u = z.before.before.before.before.before in
-    stepped-query (start z).args.t.now (v z) (p z) el.elect-answer.result u.u32_of-tag.result _
+    stepped-query (start z).args.t.now (v z) (p z) (answer_of el.elect-answer.result) u.u32_of-tag.result _
     (u.u32_of-tag.ensures ∙ ap number_of (four-front (p z) (start z).requires.1))
     (ready-is z)
     none.fresh-none.ensures.0

@@ -23,7 +23,7 @@ returns-2 c =
     let below = called.before in
     let start = below.before in
     let h = start.requires.sound in
-    others-at (table_in start.args.t.now).entries h.short h.rising (address_row start.args.address) _ _ below.count.ensures below.below-all.ensures _ _ (sym called.find-found.ensures ∙ found.in-At.is) c.without.ensures
+    others-at (table_in start.args.t.now).entries h.short h.rising (address_row start.args.address) _ _ below.count.ensures below.below-all.ensures _ _ (sym called.find-found.ensures ∙ found.in-Ok.is) c.without.ensures
 
 pub others_spec : {M : Type 1} → statement M
 others_spec =

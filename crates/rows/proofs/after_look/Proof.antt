@@ -6,8 +6,8 @@ use mathlib.Core.List.{map}
 use borrow.Author.Rules.{rules}
 use lib.ListN.{length}
 use Rattle.rows.specs.Rows.{rows_in, row_key, looks_for}
-use Rattle.rows.specs.declared.Order.{Order}
-use Rattle.rows.specs.declared.Order.TheVariants.{Less, Equal, Greater}
+use Rattle.std.specs.declared.cmp.Ordering.{Ordering}
+use Rattle.std.specs.declared.cmp.Ordering.TheVariants.{Less, Equal, Greater}
 use Rattle.rows.proofs.Outcomes.{Left, left-first}
 use Rattle.rows.proofs.after_look.Statement.{statement}
 use Rattle.rows.proofs.after_look.Tie as tie
@@ -23,7 +23,7 @@ module _ (entered : tie.After-shared_slice_known-2-1) where
   abbrev m : ℕ
   m = row_key start.args.key.now
 
-  after : (o : Order) → start.args.order ≡ o
+  after : (o : Ordering) → start.args.order ≡ o
       → Left k start.args.n m start.args.s.now 0 start.args.at start.args.n (length (looks_for start.args.at m (map row_key (rows_in k start.args.n start.args.s.now)))) o
   after o e = left-first k start.args.n m start.args.s.now start.requires.1 start.args.at start.requires.2 o (sym e ∙ start.requires.3)
 

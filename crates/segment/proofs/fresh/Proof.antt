@@ -11,7 +11,7 @@ use Rattle.segment.proofs.fresh.Tie as tie
 returns : tie.Need-returns
 returns c =
     let i = c.args.esi.now in
-    let told = fresh-told i _ _ c.give-number.ensures in
+    let told = fresh-told i _ _ c.give-answer.ensures in
     (told.0, (told.1, (starts i told.0.1, (demand3 i, (one-forwarder i, starred-right)))))
 
 pub fresh_spec : {M : Type 1} → statement M

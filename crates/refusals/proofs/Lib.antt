@@ -1,0 +1,2 @@
+-- Laws of the refusal numbers.
+pub mod Laws
