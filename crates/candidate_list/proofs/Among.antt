@@ -2,7 +2,7 @@
 use Prim.Native.Nat.{ℕ, ◌^◌, ◌≤◌, ◌<◌}
 use native.Mathlib.Omega.{arith}
 use mathlib.Core.Path.{◌≡◌, ap, ◌∙◌, sym, subst}
-use mathlib.Core.Bool.{Bool, true, false}
+use mathlib.Core.Bool.{true, false}
 use mathlib.Core.List.{List}
 use lib.ListN.{length, replicate, length-replicate}
 use lib.Dec.{eqb}
@@ -30,22 +30,17 @@ module _ (es : List Entry) (short : length es ≤ 64) (n s : ℕ) (z : n ≡ len
   all_there = rw is_all (picked-places (replicate (length es) true) es no_entry (sym (length-replicate (length es) true)) (omega (arith, length-replicate (length es) true))) ∙ picked_all es
 
   -- THE ANSWER where the algorithm is 2 or 3
-  pub among-all : (a : ℕ) (i : List ℕ) (w : Bool) (r : Backup) → w ≡ false → 2 ≤ a → a ≤ 3 → r ≡ backup_by (by_tag a 0 i) (entries_at es (places s)) 0 → r ≡ backup_under w a es
+  pub among-all : (a : ℕ) (i : List ℕ) (r : Backup) → 2 ≤ a → a ≤ 3 → r ≡ backup_by (by_tag a 0 i) (entries_at es (places s)) 0 → r ≡ backup_under false a es
   unfolding backup_under
-  among-all a i w r f l h e =
+  among-all a i r l h e =
       let one : eqb a 1 ≡ false = ne_eqb a 1 (λ y. omega (arith, y, l)) in
-      rw (f, one_of_two 2 a l h)
+      rw (one_of_two 2 a l h)
       (e ∙ ap (λ (cs : List Entry). backup_by (by_tag a 0 i) cs 0) all_there ∙ backup-digest a (digest_of 0 i) 0 0 es one)
 
--- THE REFUSALS
-module _ (a : ℕ) (es : List Entry) (w : Bool) where
-  pub among-22 : w ≡ true → refused_backup 22 ≡ backup_under w a es
-  unfolding backup_under
-  among-22 e = rw e
+-- THE REFUSAL
+pub among-15 : (a : ℕ) (es : List Entry) → (a ≡ 2 → ⊥) → (a ≡ 3 → ⊥) → refused_backup 15 ≡ backup_under false a es
+unfolding backup_under
+among-15 a es m n = rw (ne_eqb a 2 m, ne_eqb a 3 n)
 
-  pub among-15 : w ≡ false → (a ≡ 2 → ⊥) → (a ≡ 3 → ⊥) → refused_backup 15 ≡ backup_under w a es
-  unfolding backup_under
-  among-15 e m n = rw (e, ne_eqb a 2 m, ne_eqb a 3 n)
-
--- what each return of `backup_of` is
-pub ruleset refused_or_not = (among-22, among-15, all_under)
+-- what `backup_of` refuses, and the set of places that it hands on
+pub ruleset refused_or_not = (among-15, all_under)

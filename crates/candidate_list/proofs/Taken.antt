@@ -15,6 +15,7 @@ use Rattle.keyed.proofs.Keyed.{rising-insert, every-insert}
 use Rattle.keyed.proofs.Order.{length-insert}
 use Rattle.rows.specs.Rows.{found_in}
 use Rattle.std.specs.Prelude.{Ok, Err}
+use Rattle.refusals.specs.declared.Refusal.TheVariants.{CandidatesWrong}
 use Rattle.rows.proofs.Places.{found_at, found-missing, insert-missing}
 use Rattle.address.specs.declared.Address.{Address}
 use Rattle.address.specs.declared.Family.TheVariants.{V4, V6}
@@ -28,10 +29,9 @@ use Rattle.layout.proofs.Words.{Narrow, narrow-entries, table-in, valid-of}
 use Rattle.table.specs.Table.{fresh_table, Told}
 use Rattle.table.proofs.Told.{packed-entry}
 use Rattle.candidate_list.specs.declared.Candidate.{Candidate}
-use Rattle.candidate_list.specs.declared.Loaded.{Loaded}
 use Rattle.std.proofs.Common.{Option, Some, None}
 use Rattle.candidate_list.specs.Candidates.{candidate_row, candidate_election, candidate_entry, has_address}
-use Rattle.candidate_list.specs.Steps.{unless_zero, OriginatorOf, Loadable, TakenIn, ValidLoaded, entries_of, NothingLoaded, Pushed}
+use Rattle.candidate_list.specs.Steps.{unless_zero, OriginatorOf, Loadable, TakenIn, NothingLoaded}
 
 -- AN ADDRESS, unless it is zero
 module _ (a : Address) where
@@ -84,14 +84,11 @@ module _ (b : List ℕ) (h : Loadable b) (c : Candidate) where
   abbrev e : Entry
   e = candidate_entry c
 
-  pub taken_none : has_address c ≡ false → Loadable b × TakenIn es c true es
-  taken_none n = (h, (rw n, refl))
-
   module _ (a : Address) (o : OriginatorOf c (Some a)) where
-    pub taken-there : (i : ℕ) → found_in entry_key (address_key (address_row a)) es ≡ Ok i → Loadable b × TakenIn es c true es
+    pub taken-there : (i : ℕ) → found_in entry_key (address_key (address_row a)) es ≡ Ok i → Loadable b × TakenIn {A = Unit} es c (Err CandidatesWrong) es
     taken-there i f =
         let there : has entry_key (entry_key e) es ≡ true = rw (← o.1) (found_at entry_key (address_key (address_row a)) es i f).0 in
-        (h, (rw there (sym (or-true (not (has_address c)))), refl))
+        (h, (refl, rw there (or-true (not (has_address c))), refl))
 
     module _ (w i : ℕ) (p : Packed (candidate_election c) w) (f : found_in entry_key (address_key (address_row a)) es ≡ Err i) (room : length es < 64) where
       new : has entry_key (entry_key e) es ≡ false
@@ -118,7 +115,7 @@ module _ (b : List ℕ) (h : Loadable b) (c : Candidate) where
       narrow : Every Narrow (insert entry_key e es)
       narrow = every-insert entry_key Narrow e es p.1 (narrow-entries b h.0)
 
-      pub taken-new : (x : List ℕ) → x ≡ words_of (table_of (table_in b).esi (spliced es i (entry_in (address_row a) (w ∷ [])))) → Loadable x × TakenIn es c false (table_in x).entries
+      pub taken-new : (x : List ℕ) → x ≡ words_of (table_of (table_in b).esi (spliced es i (entry_in (address_row a) (w ∷ [])))) → Loadable x × TakenIn {A = Unit} es c (Ok tt) (table_in x).entries
       taken-new x q =
           let entry : entry_in (address_row a) (w ∷ []) ≡ e = packed-entry (address_row a) w (candidate_election c) p ∙ ap (λ (r : List ℕ). entry_of r (candidate_election c)) o.1 in
           let l : spliced es i (entry_in (address_row a) (w ∷ [])) ≡ insert entry_key e es =
@@ -129,18 +126,10 @@ module _ (b : List ℕ) (h : Loadable b) (c : Candidate) where
             (rw (o.0, new), ap (λ (t : Table). t.entries) table),
           )
 
--- ONE RECORD MORE
-module _ (t : Loaded) (v : ValidLoaded t) (c : Candidate) where
-  pub pushed-wrong : t.wrong ≡ true → Pushed t c t
-  pushed-wrong e = (v, rw e, rw e)
-
-  pub pushed-taken : (w : Bool) (x : List ℕ) → t.wrong ≡ false → Loadable x × TakenIn (entries_of t) c w (table_in x).entries → Pushed t c (record { wrong = w; words = x })
-  pushed-taken w x e k = (k.0, rw e k.1.0, k.1.1)
-
 -- THE TABLE THAT NONE WAS PUT INTO
-pub loaded-none : (b : List ℕ) (n : ℕ) → Told (fresh_table (0 ∷ 0 ∷ 0 ∷ 0 ∷ 0 ∷ 0 ∷ 0 ∷ 0 ∷ 0 ∷ 1 ∷ [])) n 0 b → Valid b → NothingLoaded (record { wrong = false; words = b })
+pub loaded-none : (b : List ℕ) (n : ℕ) → Told (fresh_table (0 ∷ 0 ∷ 0 ∷ 0 ∷ 0 ∷ 0 ∷ 0 ∷ 0 ∷ 0 ∷ 1 ∷ [])) n 0 b → Valid b → NothingLoaded b
 unfolding fresh_table owner_of reserved all_are all
-loaded-none b n o v = ((v, ap (λ (t : Table). reserved t.esi) o.2), refl, ap (λ (t : Table). t.entries) o.2)
+loaded-none b n o v = ((v, ap (λ (t : Table). reserved t.esi) o.2), ap (λ (t : Table). t.entries) o.2)
 
 -- what `address_of` answers for each family
 pub ruleset by_family = (is-four, is-six, is-neither)

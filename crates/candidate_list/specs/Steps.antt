@@ -3,20 +3,20 @@
 --   OriginatorOf c o      == o is the address of the record c, or tells that it has none
 --   Loadable b            == b is the words of a table that entries can be put into
 --   unfit l c             == whether the record c is refused after the entries l: it has no address, or one of theirs
---   TakenIn l c w m       == m are the entries l with the record c, where w tells whether it is refused
---   ValidLoaded t         == t is what a list of records can have loaded
---   entries_of t           == the entries that were loaded
---   NothingLoaded t       == t is what no record loads
---   Pushed t c r          == r is t with the record c
-use Rattle.std.specs.Prelude.{ℕ, ◌≡◌, Bool, true, false, cond, not, ◌||◌, List, [], Option, Some, None}
+--   TakenIn l c r m       == m are the entries l with the record c, where r tells whether it is refused
+--   entries_of b          == the entries that were loaded, into the words b
+--   NothingLoaded b       == b is what no record loads
+use Rattle.std.specs.Prelude.{ℕ, ◌≡◌, Bool, true, false, cond, not, ◌||◌, List, [], Option, Some, None, Result, Ok, Err}
 use Rattle.keyed.specs.Keyed.{has, insert}
 use Rattle.address.specs.declared.Address.{Address}
 use Rattle.address.specs.Address.{address_row, is_zero}
 use Rattle.esi.specs.Reserved.{reserved}
 use Rattle.layout.specs.Table.{Entry, entry_key}
 use Rattle.layout.specs.Words.{table_in, Valid}
+use Rattle.refusals.specs.Refusals.{candidates_wrong}
+use Rattle.refusals.specs.Numbers.{refusal_number}
+use Rattle.refusals.specs.declared.Refusal.{Refusal}
 use Rattle.candidate_list.specs.declared.Candidate.{Candidate}
-use Rattle.candidate_list.specs.declared.Loaded.{Loaded}
 use Rattle.candidate_list.specs.Candidates.{candidate_row, candidate_entry, has_address}
 
 unfoldable pub unless_zero : Address → Option Address
@@ -32,17 +32,12 @@ Loadable b = Valid b × (reserved (table_in b).esi ≡ false)
 abbrev pub unfit : List Entry → Candidate → Bool
 unfit l c = not (has_address c) || has entry_key (entry_key (candidate_entry c)) l
 
-abbrev pub TakenIn : List Entry → Candidate → Bool → List Entry → Type 0
-TakenIn l c w m = (w ≡ unfit l c) × (m ≡ cond w l (insert entry_key (candidate_entry c) l))
+abbrev pub TakenIn : {A : Type 0} → List Entry → Candidate → Result A Refusal → List Entry → Type 0
+TakenIn l c (Ok u) m = (unfit l c ≡ false) × (m ≡ insert entry_key (candidate_entry c) l)
+TakenIn l c (Err r) m = (refusal_number r ≡ candidates_wrong) × (unfit l c ≡ true) × (m ≡ l)
 
-abbrev pub ValidLoaded : Loaded → Type 0
-ValidLoaded t = Loadable t.words
+abbrev pub entries_of : List ℕ → List Entry
+entries_of b = (table_in b).entries
 
-abbrev pub entries_of : Loaded → List Entry
-entries_of t = (table_in t.words).entries
-
-abbrev pub NothingLoaded : Loaded → Type 0
-NothingLoaded t = ValidLoaded t × (t.wrong ≡ false) × (entries_of t ≡ [])
-
-abbrev pub Pushed : Loaded → Candidate → Loaded → Type 0
-Pushed t c r = ValidLoaded r × (r.wrong ≡ (t.wrong || unfit (entries_of t) c)) × (entries_of r ≡ cond r.wrong (entries_of t) (insert entry_key (candidate_entry c) (entries_of t)))
+abbrev pub NothingLoaded : List ℕ → Type 0
+NothingLoaded b = Loadable b × (entries_of b ≡ [])

@@ -1,13 +1,12 @@
 // A list of candidates kept as records (document 02, M-113): the backup among them under algorithm 2 or 3, which the caller names. The walk is the one function that has the lent list: it hands
-// each record by value to `push`, which puts it among the entries of a route table, and what was loaded to `backup_of`.
+// each record by value to `take_in`, which puts it among the entries of a route table, and the table to `backup_of`.
 #![tactic(auto)]
 
-ghost use Rattle.std.specs.Prelude.{◌≡◌, ◌<◌, length};
+ghost use Rattle.std.specs.Prelude.{◌≡◌, ◌<◌, length, false};
 ghost use mathlib.Core.List.{List, map, Permᴰ};
-ghost use Rattle.layout.specs.Words.{table_in};
 ghost use Rattle.backup.specs.Backup.{backup_in, SecondInLine};
 ghost use Rattle.candidate_list.specs.Candidates.{candidate_entry, by_algorithm, backup_under, backup_in_list};
-ghost use Rattle.candidate_list.specs.Steps.{unless_zero, OriginatorOf, Loadable, TakenIn, ValidLoaded, entries_of, NothingLoaded, Pushed};
+ghost use Rattle.candidate_list.specs.Steps.{unless_zero, OriginatorOf, Loadable, TakenIn, entries_of, NothingLoaded};
 
 use address::{Address, Family};
 use backup::Named;
@@ -35,13 +34,6 @@ pub struct Candidate {
     pub w3: u32,
     pub preference: u16,
     pub dp: bool,
-}
-
-// What was loaded: whether a record was refused, and the words of a route table with the entries of those before it.
-#[derive(Drop)]
-struct Loaded {
-    wrong: bool,
-    words: [u32; WORDS],
 }
 
 // An address, unless it is zero.
@@ -74,17 +66,17 @@ fn address_of(c: Candidate) -> Option<Address>
     })
 }
 
-// Puts a record among the entries of a table. Whether it is refused, as it has no address or one that is there: then nothing changes.
-fn take_in(t: &mut [u32], c: Candidate) -> bool
-    requires { Loadable t.old × (length (table_in t.old).entries < 64) }
-    ensures { Loadable t.new × TakenIn (table_in t.old).entries c result (table_in t.new).entries }
+// Puts a record among the entries of a table: 22 where it has no address or one that is there. Then nothing changes.
+fn take_in(t: &mut [u32], c: Candidate) -> Result<(), Refusal>
+    requires { Loadable t.old × (length (entries_of t.old) < 64) }
+    ensures { Loadable t.new × TakenIn (entries_of t.old) c result (entries_of t.new) }
 {
     let Some(address) = address_of(c) else {
-        return true;
+        return Err(Refusal::CandidatesWrong);
     };
     let found = entries::find(t, address);
     let Err(at) = found else {
-        return true;
+        return Err(Refusal::CandidatesWrong);
     };
     let election = Election {
         algorithm: HIGHEST_PREFERENCE,
@@ -94,59 +86,35 @@ fn take_in(t: &mut [u32], c: Candidate) -> bool
     };
     let word = layout::attributes(election);
     entries::grow(t, at, address, word);
-    false
+    Ok(())
 }
 
-// Nothing loaded yet.
-fn nothing() -> Loaded
+// The words of a table that records can be loaded into, with none yet.
+fn nothing() -> [u32; WORDS]
     ensures { NothingLoaded result }
 {
     let esi = SEGMENT;
     let made = table::fresh(&esi);
-    let words = made.table;
-    Loaded {
-        wrong: false,
-        words: words,
-    }
+    made.table
 }
 
-// One record more. After a record that is refused nothing is loaded any more.
-fn push(t: Loaded, c: Candidate) -> Loaded
-    requires { ValidLoaded t × (length (entries_of t) < 64) }
-    ensures { Pushed t c result }
-{
-    if t.wrong {
-        return t;
-    }
-    let mut words = t.words;
-    let wrong = take_in(&mut words, c);
-    Loaded {
-        wrong: wrong,
-        words: words,
-    }
-}
-
-// The backup among what was loaded: 22 where a record was refused, 15 for an algorithm that is neither 2 nor 3, 12 where fewer than two were loaded.
+// The backup among the entries of a table: 15 for an algorithm that is neither 2 nor 3, 12 where there are fewer than two.
 #[tactic(auto, using(crate::proofs::Among::refused_or_not))]
-fn backup_of(t: Loaded, algorithm: u8) -> Result<Named, Refusal>
-    requires { ValidLoaded t }
-    ensures { backup_in result ≡ backup_under t.wrong algorithm (entries_of t) }
+fn backup_of(t: &[u32], algorithm: u8) -> Result<Named, Refusal>
+    requires { Loadable t.now }
+    ensures { backup_in result ≡ backup_under false algorithm (entries_of t.now) }
 {
-    if t.wrong {
-        return Err(Refusal::CandidatesWrong);
-    }
     if algorithm < 2 || 3 < algorithm {
         return Err(Refusal::AlgorithmNotUsable);
     }
-    let words = t.words;
-    let set = places::below(layout::count(&words));
-    backup::backup_among(&words, algorithm, set, 0)
+    let set = places::below(layout::count(t));
+    backup::backup_among(t, algorithm, set, 0)
 }
 
 // Names the backup among a list of candidates, in any order, all of them eligible, under algorithm 2 or 3: 22 for a list over 64, with an address twice, with address zero or with a family that is
 // neither 4 nor 6; then 15 for another algorithm; then 12 for fewer than two records. An address that is named is that of a candidate other than the forwarder, and no other candidate but the
 // forwarder is better. The order of the list does not matter. `candidate_list_c` exports it.
-#[tactic(auto, using(crate::proofs::Loads::turned))]
+#[tactic(auto, using(crate::proofs::Loads::loading))]
 pub fn name_backup_in(list: &[Candidate], algorithm: u8) -> Result<Named, Refusal>
     ensures answer { backup_in result ≡ backup_in_list list.now algorithm }
     ensures second { (backup_in result).number ≡ 0 → SecondInLine (by_algorithm algorithm) (map candidate_entry list.now) 0 (backup_in result) }
@@ -155,9 +123,9 @@ pub fn name_backup_in(list: &[Candidate], algorithm: u8) -> Result<Named, Refusa
     if MAX_CANDIDATES < list.len() {
         return Err(Refusal::CandidatesWrong);
     }
-    let mut t = nothing();
+    let mut words = nothing();
     for c in list {
-        t = push(t, *c);
+        take_in(&mut words, *c)?;
     }
-    backup_of(t, algorithm)
+    backup_of(&words, algorithm)
 }

@@ -2,7 +2,7 @@
 use Prim.Native.Nat.{ℕ, ◌+◌, ◌-◌, ◌≤◌}
 use native.Mathlib.Omega.{arith}
 use mathlib.Core.Path.{◌≡◌, refl, ap, ◌∙◌, sym, subst}
-use mathlib.Core.Bool.{Bool, true, false, ◌||◌, or-true}
+use mathlib.Core.Bool.{true, false, ◌||◌, or-true}
 use mathlib.Core.List.{List, []}
 use lib.ListN.{length, take, drop}
 use lib.Dec.{eqb}
@@ -10,8 +10,7 @@ use denote.Ref.{Bor}
 use borrow.Author.Tests.{eq-eqb, ne_eqb}
 use Rattle.lists.proofs.Checks.{refused-at, refused_none}
 use Rattle.address.specs.Address.{is_zero}
-use Rattle.dumps.specs.declared.Place.{Place}
-use Rattle.dumps.specs.Dumps.{records_of, last_in}
+use Rattle.dumps.specs.Dumps.{Place, records_of, last_in}
 use Rattle.dumps.specs.Answers.{is_broken, holds, last_number, dump_of, Answered}
 use Rattle.dumps.proofs.Found.{Found, found, broken-number}
 

@@ -13,8 +13,7 @@ use Rattle.lists.proofs.Bools.{cond-by}
 use Rattle.frames.specs.Frames.{Front, nothing, bad, cut, whole, front, record_of}
 use Rattle.frames.proofs.Laws.{whole-record}
 use Rattle.judgement.specs.Judgement.{judged_of, is_bad}
-use Rattle.dumps.specs.declared.Place.{Place}
-use Rattle.dumps.specs.Dumps.{BenchRecord, Dump, broken, records, led, opened, records_for, records_of, announces, counts, standing, last_among, last_of, last_in}
+use Rattle.dumps.specs.Dumps.{Place, BenchRecord, Dump, broken, records, led, opened, records_for, records_of, announces, counts, standing, last_among, last_of, last_in}
 use Rattle.dumps.specs.Answers.{is_broken, Last}
 
 -- ---- every record of a dump stands where it says

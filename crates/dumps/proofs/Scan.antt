@@ -11,10 +11,9 @@ use Rattle.lists.proofs.Bools.{cond-by}
 use Rattle.frames.specs.Frames.{Front, nothing, bad, cut, whole, front, located, frame_at}
 use Rattle.frames.proofs.Laws.{WholeAt, frame-told}
 use Rattle.judgement.specs.Judgement.{judged_of, is_bad}
-use Rattle.dumps.specs.declared.Place.{Place}
 use Rattle.dumps.specs.declared.Read.{Read}
 use Rattle.dumps.specs.declared.Read.TheVariants.{End, Broken, Passed, Counted}
-use Rattle.dumps.specs.Dumps.{BenchRecord, Dump, broken, records, led, opened, records_for, records_of, counts, standing, last_among, last_of, last_in}
+use Rattle.dumps.specs.Dumps.{Place, BenchRecord, Dump, broken, records, led, opened, records_for, records_of, counts, standing, last_among, last_of, last_in}
 use Rattle.dumps.specs.Reads.{record_read, front_read, read_at}
 
 -- ---- what is read at a position, by the answers of `frame_at`

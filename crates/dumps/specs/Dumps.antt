@@ -11,17 +11,21 @@
 --   route_in p           == the route octets in the payload p of an announcement: 25 of them or, where octet 20 says 128, 37
 --   announces a p       == whether the payload p announces the address a: the route reader accepts its route, and the originator is a
 --   counts a k p        == whether a record of kind k with the payload p counts for the address a: it is an announcement, and it announces a
+--   Place               == where a record stands: 0, its position and how many octets it has, mark and length included; or a refusal number and zeros
+--   place_of r          == that place, where the search answers r
 --   standing e          == where the record e stands: its position, and how many octets it has, mark and length included
 --   last_among a l b     == where the last of the records l that counts for the address a stands, or b where none does
 --   last_of a d b        == the same for a dump, or 16
 --   last_in a s          == where the last record of the octets s stands that counts for the address a, or 16 or 9: the refusal comes with no octets
-use Rattle.std.specs.Prelude.{ℕ, zero, suc, ◌+◌, Bool, cond, ◌&&◌, List, [], ◌∷◌, length, get_or, take, eqb}
+use Rattle.std.specs.Prelude.{ℕ, zero, suc, ◌+◌, Bool, cond, ◌&&◌, Result, Ok, Err, List, [], ◌∷◌, length, get_or, take, eqb}
 use Rattle.octets.specs.Octets.{same_numbers}
 use Rattle.refusals.specs.Refusals.{not_present, bad_record}
 use Rattle.route.specs.Route.{total_of, route_number, route_address}
 use Rattle.frames.specs.Frames.{Front, nothing, bad, cut, whole, front}
 use Rattle.judgement.specs.Judgement.{judged_of, is_bad}
-use Rattle.dumps.specs.declared.Place.{Place}
+use Rattle.refusals.specs.Numbers.{refusal_number}
+use Rattle.refusals.specs.declared.Refusal.{Refusal}
+use Rattle.dumps.specs.declared.Part.{Part}
 
 pub record BenchRecord : Type 0 where
   pub at : ℕ
@@ -65,6 +69,15 @@ unfoldable pub counts : List ℕ → ℕ → List ℕ → Bool
 counts a k p = eqb k 1 && announces a p
 
 -- THE LAST OF THEM
+pub record Place : Type 0 where
+  pub number : ℕ
+  pub start : ℕ
+  pub len : ℕ
+
+abbrev pub place_of : Result Part Refusal → Place
+place_of (Ok p) = record { number = 0; start = p.start; len = p.len }
+place_of (Err r) = record { number = refusal_number r; start = 0; len = 0 }
+
 abbrev pub standing : BenchRecord → Place
 standing e = record { number = 0; start = e.at; len = 4 + length e.payload }
 

@@ -2,29 +2,23 @@
 // each dump, in which nothing is kept but places. The records are cut by `frames` and judged by `judgement`, as the bench program's are.
 #![tactic(auto)]
 
-ghost use Rattle.std.specs.Prelude.{◌≡◌, [], ◌∷◌, ◌≤◌, length, get_or};
+ghost use Rattle.std.specs.Prelude.{◌≡◌, [], ◌∷◌, ◌≤◌, length, get_or, eqb};
 ghost use Rattle.octets.specs.Octets.{same_numbers};
 ghost use Rattle.address.specs.Address.{address_row};
 ghost use Rattle.route.specs.Route.{total_of, route_address};
-ghost use Rattle.dumps.specs.Dumps.{route_in, announces, last_in};
+ghost use Rattle.dumps.specs.Dumps.{route_in, announces, last_in, place_of};
 ghost use Rattle.dumps.specs.Reads.{record_read, read_at};
 ghost use Rattle.dumps.specs.Answers.{HandedBack};
+ghost use Rattle.refusals.specs.Refusals.{bad_record};
 
 use address::{Address, Family};
 use frames::Frame;
 use judgement::Judged;
 use refusals::Refusal;
 
-// The numbers of a dump that breaks the record rules, and of one without such a record.
-const BAD_RECORD: u8 = Refusal::BadRecord as u8;
-
-const NOT_PRESENT: u8 = Refusal::NotPresent as u8;
-
-// Where a record of a dump stands: with the number 0 its octets, mark and length included, are `len` from `start` on. With 9 there is no such record, and with 16 the dump breaks
-// the rules of records.
+// Where a record of a dump stands: its octets, mark and length included, are `len` from `start` on.
 #[derive(Clone, Copy)]
-struct Place {
-    number: u8,
+struct Part {
     start: usize,
     len: usize,
 }
@@ -133,37 +127,33 @@ fn read_at(s: &[u8], at: usize, address: Address) -> Read
 }
 
 // Where the last record of a dump stands that is an announcement and counts for an address: 16 if the dump breaks the record rules, 9 if there is no such record.
-fn last(s: &[u8], address: Address) -> Place
-    ensures { result ≡ last_in (address_row address) s.now }
+fn last(s: &[u8], address: Address) -> Result<Part, Refusal>
+    ensures { place_of result ≡ last_in (address_row address) s.now }
 {
-    let mut number = NOT_PRESENT;
-    let mut start: usize = 0;
-    let mut len: usize = 0;
+    let mut found = Err(Refusal::NotPresent);
     let mut at: usize = 0;
     loop {
         let read = read_at(s, at, address);
         match read {
-            Read::End => {
-                return Place { number, start, len };
-            }
-            Read::Broken => {
-                return Place {
-                    number: BAD_RECORD,
-                    start: 0,
-                    len: 0,
-                };
-            }
-            Read::Passed(after) => {
-                at = after;
-            }
+            Read::End => return found,
+            Read::Broken => return Err(Refusal::BadRecord),
+            Read::Passed(after) => at = after,
             Read::Counted(after) => {
-                number = 0;
-                start = at;
-                len = after - at;
+                found = Ok(Part {
+                    start: at,
+                    len: after - at,
+                });
                 at = after;
             }
         }
     }
+}
+
+// Whether a search ended at a record that breaks the rules.
+fn is_broken(found: &Result<Part, Refusal>) -> bool
+    ensures { result ≡ eqb (place_of found.now).number bad_record }
+{
+    matches!(found, Err(Refusal::BadRecord))
 }
 
 // Hands back the octets of the last announcement record of an address, mark and length included, from the first dump or, if there is none there, from the second: a part of that
@@ -182,23 +172,17 @@ pub fn last_announcement<'a>(
     }
     let one = last(first, address);
     let two = last(second, address);
-    let one_number = one.number;
-    let two_number = two.number;
-    if one_number == BAD_RECORD {
+    if is_broken(&one) {
         return Err(Refusal::BadRecord);
     }
-    if two_number == BAD_RECORD {
+    if is_broken(&two) {
         return Err(Refusal::BadRecord);
     }
-    if one_number == 0 {
-        let start = one.start;
-        let end = start + one.len;
-        return Ok(&first[start..end]);
+    if let Ok(part) = one {
+        return Ok(&first[part.start..part.start + part.len]);
     }
-    if two_number == 0 {
-        let start = two.start;
-        let end = start + two.len;
-        return Ok(&second[start..end]);
+    if let Ok(part) = two {
+        return Ok(&second[part.start..part.start + part.len]);
     }
     Err(Refusal::NotPresent)
 }

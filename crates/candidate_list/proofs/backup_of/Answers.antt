@@ -6,5 +6,5 @@ use Rattle.candidate_list.proofs.backup_of.Goals as goal
 
 pub returns : goal.returns
 returns c =
-    among-all (entries_of c.args.t) c.requires.0.sound.short _ _ c.count.ensures c.below-set.ensures
-    c.args.algorithm _ _ _ c.if-t.false (omega arith) (omega arith) c.backup_among.ensures
+    among-all (entries_of c.args.t.now) c.requires.0.sound.short _ _ c.count.ensures c.below-set.ensures
+    c.args.algorithm _ _ (omega arith) (omega arith) c.backup_among.ensures
