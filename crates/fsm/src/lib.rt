@@ -76,10 +76,10 @@ impl State {
 
 impl Event {
     // The number of an event: ES_UP 0, ES_DOWN 1, VLAN_CHANGE 2, RCVD_ES 3, LOST_ES 4, DF_TIMER 5, CALCULATED 6.
-    fn number(self) -> u8
+    fn number(self) -> usize
         ensures { result ≡ event_number self }
     {
-        self as u8
+        self as usize
     }
 }
 
@@ -89,7 +89,7 @@ fn next(s: State, e: Event) -> State
     ensures { result ≡ next_state s e }
 {
     let row = s.number() as usize;
-    let column = e.number() as usize;
+    let column = e.number();
     NEXT[row][column]
 }
 
@@ -118,7 +118,7 @@ fn is_due(m: Machine, now: u32) -> bool
     m.state == State::DfWait && m.wait <= waited(now, m.since)
 }
 
-// A machine in INIT with a wait of 1 to 600 seconds; any other wait is refused, and the answer then stands for a machine in INIT with wait 0. Whatever
+// A machine in INIT with a wait of 1 to 600 seconds; any other wait is refused with 17, and the answer then stands for a machine in INIT with wait 0. Whatever
 // list of events and clock readings follows, the claims hold of the machine that it leaves.
 #[tactic(auto, using(crate::proofs::Lists::claimed), unfolding(crate::specs::Machine::made_of))]
 pub fn make(wait: u32) -> Result<Machine, Refusal>

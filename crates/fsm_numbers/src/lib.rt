@@ -25,7 +25,7 @@ fn event_of(n: u8) -> Option<Event>
     }
 }
 
-// As `fsm::drive`, with the event's number: a number above 6 is refused, and the answer then stands for the machine as it was.
+// As `fsm::drive`, with the event's number: a number above 6 is refused with 23, and the answer then stands for the machine as it was.
 #[tactic(auto, unfolding(crate::specs::Numbers::driven_of, crate::specs::Numbers::numbered_answer))]
 pub fn drive_number(m: Machine, event: u8, now: u32) -> Result<Machine, Refusal>
     ensures { answered m result ≡ driven_of m event now }
