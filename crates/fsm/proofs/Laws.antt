@@ -3,13 +3,15 @@
 --   cell                   the table of the next states, looked up by state and event
 --   rows, columns          a number of a state, or an event, is one of the table's
 --   wrapped                what is wrapped to the later reading by the earlier is the difference modulo 2^32
+--   made, unmade-zero, unmade-long   the answer to a wait from 1 to 600, to 0 and to a longer one
 -- Assumes nothing.
-use Rattle.std.proofs.Common.{◌≡◌, ℕ, ◌+◌, ◌%◌, ◌^◌, ◌<◌, List, [], ◌∷◌, map, get_or, refl, ap, ◌∙◌, arith}
+use Rattle.std.proofs.Common.{◌≡◌, ℕ, ◌+◌, ◌%◌, ◌^◌, ◌<◌, ◌≤◌, List, [], ◌∷◌, map, get_or, refl, ap, ◌∙◌, arith, le-leb}
+use borrow.Author.Tests.{lt-leb}
 use Rattle.fsm.specs.declared.State.{State}
 use Rattle.fsm.specs.declared.State.TheVariants.{Init, DfWait, DfCalc, DfDone}
 use Rattle.fsm.specs.declared.Event.{Event}
 use Rattle.fsm.specs.declared.Event.TheVariants.{EsUp, EsDown, VlanChange, RcvdEs, LostEs, DfTimer, Calculated}
-use Rattle.fsm.specs.Machine.{state_number, event_number, next_state, waited_of}
+use Rattle.fsm.specs.Machine.{state_number, event_number, next_state, waited_of, in_init, made_of}
 
 -- ---- the table
 abbrev pub states : List State
@@ -61,3 +63,19 @@ columns Calculated = omega arith
 pub wrapped : (now since r : ℕ) → r < 2 ^ 32 → since < 2 ^ 32 → (r + since) % 2 ^ 32 ≡ now → r ≡ waited_of now since
 unfolding waited_of
 wrapped now since r hr hs e = omega arith
+
+-- ---- what a wait makes
+pub made : (w : ℕ) → (w ≡ 0 → ⊥) → w ≤ 600 → record { number = 0; machine = in_init w } ≡ made_of w
+unfolding made_of
+made w p h = rw (le-leb 1 w (one w p), le-leb w 600 h)
+  where
+    one : (w : ℕ) → (w ≡ 0 → ⊥) → 1 ≤ w
+    one w p = omega arith
+
+pub unmade-zero : (w : ℕ) → w ≡ 0 → record { number = 17; machine = in_init 0 } ≡ made_of w
+unfolding made_of
+unmade-zero w e = rw e
+
+pub unmade-long : (w : ℕ) → 600 < w → record { number = 17; machine = in_init 0 } ≡ made_of w
+unfolding made_of
+unmade-long w h = rw (lt-leb w 600 h, le-leb 1 w (omega arith))

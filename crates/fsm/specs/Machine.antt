@@ -9,7 +9,7 @@
 --   due m now           == whether the clock reading yields DF_TIMER
 --   in_init w            == the machine in INIT with the wait w
 --   Answer               == the answer to making a machine, or to an event that is handed in as a number: 0 or a refusal's number, and the machine
---   answered m r         == that answer for the result r, where on a refusal the machine is m
+--   answered m r         == the answer for the result r of an event that is handed in as a number, where on a refusal the machine is m, as it was
 --   made_of w            == the answer to making a machine with the wait w
 --   drive_of m e now     == the machine m after the event e, with the clock reading handed in
 --   tick_of m now        == the machine m after a clock reading alone

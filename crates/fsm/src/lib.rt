@@ -4,7 +4,8 @@
 #![tactic(auto)]
 
 ghost use Rattle.std.specs.Prelude.{◌≡◌, ◌+◌, ◌%◌, ◌^◌, List};
-ghost use Rattle.fsm.specs.Machine.{state_number, event_number, next_state, starts, waited_of, due, in_init, answered, made_of, drive_of, tick_of};
+ghost use Rattle.fsm.specs.Machine.{state_number, event_number, next_state, starts, waited_of, due, made_of, drive_of, tick_of};
+ghost use Rattle.refusals.specs.Numbers.{number_of};
 ghost use Rattle.fsm.specs.Runs.{Item, run, Claims};
 
 use refusals::Refusal;
@@ -42,7 +43,14 @@ pub const MIN_WAIT: u32 = 1;
 
 pub const MAX_WAIT: u32 = 600;
 
-// The machine that a refused wait stands for: in INIT with wait 0.
+// What making a machine answers: whether the wait is refused, and the machine, which stands in INIT with wait 0 where it is.
+#[derive(Clone, Copy, Debug, PartialEq, Eq)]
+pub struct Made {
+    pub answer: Result<(), Refusal>,
+    pub machine: Machine,
+}
+
+// The machine that a refused wait leaves: in INIT with wait 0.
 pub const INITIAL: Machine = Machine {
     state: State::Init,
     wait: 0,
@@ -118,17 +126,23 @@ fn is_due(m: Machine, now: u32) -> bool
     m.state == State::DfWait && m.wait <= waited(now, m.since)
 }
 
-// A machine in INIT with a wait of 1 to 600 seconds; any other wait is refused with 17, and the answer then stands for a machine in INIT with wait 0. Whatever
-// list of events and clock readings follows, the claims hold of the machine that it leaves.
+// A machine in INIT with a wait of 1 to 600 seconds; any other wait is refused with 17, and leaves a machine in INIT with wait 0. Whatever list of events and
+// clock readings follows, the claims hold of the machine that it leaves.
 #[tactic(auto, using(crate::proofs::Lists::claimed), unfolding(crate::specs::Machine::made_of))]
-pub fn make(wait: u32) -> Result<Machine, Refusal>
-    ensures answer { answered (in_init 0) result ≡ made_of wait }
-    ensures runs { let made = (answered (in_init 0) result).machine in (l : List Item) → Claims made (run made l) }
+pub fn make(wait: u32) -> Made
+    ensures answer { record { number = number_of result.answer; machine = result.machine } ≡ made_of wait }
+    ensures runs { (l : List Item) → Claims result.machine (run result.machine l) }
 {
     if wait < MIN_WAIT || MAX_WAIT < wait {
-        return Err(Refusal::WaitOutOfRange);
+        return Made {
+            answer: Err(Refusal::WaitOutOfRange),
+            machine: INITIAL,
+        };
     }
-    Ok(Machine { wait, ..INITIAL })
+    Made {
+        answer: Ok(()),
+        machine: Machine { wait, ..INITIAL },
+    }
 }
 
 // The machine after an event, with the clock reading handed in: the table's next state, the wait as it was. The wait runs from this reading exactly

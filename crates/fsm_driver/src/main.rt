@@ -6,33 +6,33 @@
 #![tactic(auto)]
 
 ghost use Rattle.std.specs.Prelude.{◌≡◌};
-ghost use Rattle.fsm.specs.Machine.{answered};
-ghost use Rattle.fsm_driver.specs.Items.{item_stands, item_answer, item_octets};
+ghost use Rattle.fsm_numbers.specs.Numbers.{driven_of};
+ghost use Rattle.fsm_driver.specs.Items.{item_answer, item_octets};
 
 use fsm::Machine;
-use refusals::Refusal;
 use std::io;
 use std::io::{ErrorKind, Read};
 
-// The answer to an item.
-#[tactic(auto, unfolding(crate::specs::Items::item_answer))]
-fn item_answer(m: Machine, kind: u8, event: u8, number: u32) -> Result<Machine, Refusal>
-    ensures { answered (item_stands m kind) result ≡ item_answer m kind event number }
+// The answer to an event that is handed in as a number: a refusal leaves the machine as it was.
+fn event_answer(m: Machine, event: u8, now: u32) -> (u8, Machine)
+    ensures { record { number = result.0; machine = result.1 } ≡ driven_of m event now }
 {
-    match kind {
-        0 => fsm_numbers::drive_number(m, event, number),
-        1 => Ok(fsm::tick(m, number)),
-        _ => fsm::make(number),
-    }
+    let answer = fsm_numbers::drive_number(m, event, now);
+    (refusals::number(&answer), answer.unwrap_or(m))
 }
 
-// The machine that stands where an item is refused.
-fn item_stands(m: Machine, kind: u8) -> Machine
-    ensures { result ≡ item_stands m kind }
+// The answer to an item: its number, and the machine after it.
+#[tactic(auto, unfolding(crate::specs::Items::item_answer))]
+fn item_answer(m: Machine, kind: u8, event: u8, number: u32) -> (u8, Machine)
+    ensures { record { number = result.0; machine = result.1 } ≡ item_answer m kind event number }
 {
     match kind {
-        0 | 1 => m,
-        _ => fsm::INITIAL,
+        0 => event_answer(m, event, number),
+        1 => (0, fsm::tick(m, number)),
+        _ => {
+            let made = fsm::make(number);
+            (refusals::number(&made.answer), made.machine)
+        }
     }
 }
 
@@ -57,6 +57,15 @@ fn octets_of(number: u8, m: Machine) -> [u8; 10]
     ]
 }
 
+// What becomes of an item: the machine after it, and the ten octets that are written.
+fn taken(m: Machine, kind: u8, event: u8, number: u32) -> (Machine, [u8; 10])
+    ensures machine { result.0 ≡ (item_answer m kind event number).machine }
+    ensures octets { result.1 ≡ item_octets (item_answer m kind event number) }
+{
+    let (told, next) = item_answer(m, kind, event, number);
+    (next, octets_of(told, next))
+}
+
 // Reads an item, writes what becomes of the machine, and answers it; none where the input ends before the item does.
 fn take_item(rt: &impl Print, input: &mut impl Read, m: Machine) -> io::Result<Option<Machine>> {
     let mut item = [0u8; 6];
@@ -68,16 +77,15 @@ fn take_item(rt: &impl Print, input: &mut impl Read, m: Machine) -> io::Result<O
         };
     }
     let number = octets::u32_of(item[2], item[3], item[4], item[5]);
-    let answer = item_answer(m, item[0], item[1], number);
-    let next = answer.unwrap_or(item_stands(m, item[0]));
-    rt.write_all(&octets_of(refusals::number(&answer), next))?;
+    let (next, octets) = taken(m, item[0], item[1], number);
+    rt.write_all(&octets)?;
     Ok(Some(next))
 }
 
 // A proved loop has to end, and nothing says that the input does: the loop counts its turns, up to a number that no run reaches.
 fn main(rt: HostRuntime) -> io::Result<()> {
     let mut input = rt.reader();
-    let mut m = fsm::INITIAL;
+    let mut m = fsm::make(0).machine;
     for _ in 0..u64::MAX {
         match take_item(&rt, &mut input, m)? {
             Some(next) => m = next,
