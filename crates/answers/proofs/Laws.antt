@@ -12,6 +12,7 @@ use lib.Count.{ones}
 use lib.Pow.{pow_mono}
 use borrow.Author.Tests.{eq-eqb, ne_eqb, eqb-true, eqb-false}
 use Rattle.lists.proofs.Lists.{empty, at_mem}
+use Rattle.address.specs.Address.{family_of, address_words}
 use Rattle.keyed.specs.Keyed.{Rising}
 use Rattle.layout.specs.Table.{Entry, entry_key, no_entry, Table, WellFormed}
 use Rattle.places.specs.Places.{places, set_of}
@@ -49,6 +50,11 @@ elected-by l a s tag d e at p g = (g.0, g.1 ∙ ap (λ (y : ℕ). elected a tag 
 -- and with the digest that its algorithm asks for
 pub elected-at : (i : List ℕ) (l : List Entry) (a s tag d at : ℕ) → d ≡ digest_under a [] tag i → ElectedAt l a d s tag at → ElectedAt l a (digest_of tag i) s tag at
 elected-at i l a s tag d at e g = let f = elected-by l a s tag d (digest_under a [] tag i) at e g in (f.0, f.1 ∙ elected-under a tag i (entries_at l (places s)))
+
+-- an answer that names, by its parts
+pub named-answer : (x : List ℕ) (a f m n s : ℕ) (w : List ℕ) → f ≡ family_of x → w ≡ address_words x → m ≡ n → m ≡ ones s
+    → (record { number = 0; family = f; address = w; algorithm = a; n = m; candidates = s } ≡ named_answer x a n s) × (m ≡ ones s)
+named-answer x a f m n s w p q r o = (rw (p, q, r), o)
 
 -- AN ANSWER BY A METHOD, whatever its candidates
 module _ (m : Method) (cs : List Entry) (set tag : ℕ) where

@@ -115,17 +115,17 @@ keeps_order p s h = record { monotone = λ q t. monotone p q s t; up = never-low
 false-true : {X : Type 0} → false ≡ true → X
 false-true e = absurd (subst T (sym e) tt)
 
-refused-low : (p : ℕ) (s : ℤ) → lt_z s (negsuc 65534) ≡ true → sum 19 0 ≡ add_step p s
+pub refused-low : (p : ℕ) (s : ℤ) → lt_z s (negsuc 65534) ≡ true → sum 19 0 ≡ add_step p s
 unfolding is_step
 refused-low p (pos a) e = false-true e
 refused-low p (negsuc b) e = sym (refused p (negsuc b) (ap (λ (x : Bool). x && true) (lt-leb b 65534 (ltb-true 65534 b e))))
 
-refused-high : (p : ℕ) (s : ℤ) → lt_z (pos 65535) s ≡ true → sum 19 0 ≡ add_step p s
+pub refused-high : (p : ℕ) (s : ℤ) → lt_z (pos 65535) s ≡ true → sum 19 0 ≡ add_step p s
 unfolding is_step
 refused-high p (pos a) e = sym (refused p (pos a) (lt-leb a 65535 (ltb-true 65535 a e)))
 refused-high p (negsuc b) e = false-true e
 
-is-step : (s : ℤ) → lt_z s (negsuc 65534) ≡ false → lt_z (pos 65535) s ≡ false → is_step s ≡ true
+pub is-step : (s : ℤ) → lt_z s (negsuc 65534) ≡ false → lt_z (pos 65535) s ≡ false → is_step s ≡ true
 is-step (pos a) l h = step-up a (ltb-false 65535 a h)
 is-step (negsuc b) l h = let k = ltb-false 65534 b l in step_down b (omega arith)
 
@@ -134,7 +134,7 @@ sub-mag : (t : Bool) (p b : ℕ) → p ≤ 65535 → suc b ≤ 65535 → mag (co
 sub-mag true p b hp hb = omega arith
 sub-mag false p b hp hb = omega arith
 
-sum_fits : (p : ℕ) (s : ℤ) → p ≤ 65535 → is_step s ≡ true → mag (pos p +ℤ s) < 2147483648
+pub sum_fits : (p : ℕ) (s : ℤ) → p ≤ 65535 → is_step s ≡ true → mag (pos p +ℤ s) < 2147483648
 sum_fits p (pos a) h e = let k = up_step a e in omega arith
 sum_fits p (negsuc b) h e = sub-mag (ltb p (suc b)) p b h (down_step b e)
 
@@ -154,13 +154,13 @@ stopped-between (negsuc n) l h = false-true (sym l)
 answered : (p : ℕ) (s : ℤ) (n : ℕ) → is_step s ≡ true → clamped (pos p +ℤ s) ≡ n → sum 0 n ≡ add_step p s
 answered p s n e k = sym (accepted p s e ∙ ap (λ (x : ℕ). sum 0 x) k)
 
-stops-low : (p : ℕ) (s : ℤ) → is_step s ≡ true → lt_z (pos p +ℤ s) (pos 0) ≡ true → sum 0 0 ≡ add_step p s
+pub stops-low : (p : ℕ) (s : ℤ) → is_step s ≡ true → lt_z (pos p +ℤ s) (pos 0) ≡ true → sum 0 0 ≡ add_step p s
 stops-low p s e l = answered p s 0 e (stopped-low (pos p +ℤ s) l)
 
-stops-high : (p : ℕ) (s : ℤ) → is_step s ≡ true → lt_z (pos 65535) (pos p +ℤ s) ≡ true → sum 0 65535 ≡ add_step p s
+pub stops-high : (p : ℕ) (s : ℤ) → is_step s ≡ true → lt_z (pos 65535) (pos p +ℤ s) ≡ true → sum 0 65535 ≡ add_step p s
 stops-high p s e h = answered p s 65535 e (stopped-high (pos p +ℤ s) h)
 
-adds : (p : ℕ) (s : ℤ) → is_step s ≡ true → lt_z (pos p +ℤ s) (pos 0) ≡ false → lt_z (pos 65535) (pos p +ℤ s) ≡ false
+pub adds : (p : ℕ) (s : ℤ) → is_step s ≡ true → lt_z (pos p +ℤ s) (pos 0) ≡ false → lt_z (pos 65535) (pos p +ℤ s) ≡ false
     → sum 0 (nat_abs (pos p +ℤ s)) ≡ add_step p s
 adds p s e l h = answered p s (nat_abs (pos p +ℤ s)) e (stopped-between (pos p +ℤ s) l h)
 

@@ -1,6 +1,8 @@
 // The tables of the programs that run outside values, all of one segment: router n has the address 10.0.0.n. Each is a segment's state, with none set.
 #![tactic(auto)]
 
+ghost use Rattle.std.specs.Prelude.{◌≡◌};
+ghost use Rattle.refusals.specs.Numbers.{number_at};
 ghost use Rattle.segment_state.specs.State.{ValidSegment};
 
 use address::{Address, Family};
@@ -75,7 +77,9 @@ pub fn announce(t: Table, n: u8, algorithm: u8, preference: u16, dp: bool) -> Ch
 }
 
 // The number of an announcement's answer: 0 where it is not refused.
-pub fn number(c: Change) -> u64 {
+pub fn number(c: Change) -> u64
+    ensures { result ≡ number_at c.answer }
+{
     match c.answer {
         Ok(()) => 0,
         Err(told) => told.refusal.number() as u64,
