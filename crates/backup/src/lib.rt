@@ -65,7 +65,8 @@ pub fn backup_among(t: &[u32], algorithm: u8, set: u64, tag: u32) -> Result<Name
     Ok(name_at(t, at))
 }
 
-// The same by the algorithm of a plain query.
+// The same by the algorithm of a plain query. It is compiled into its two callers: a `Result` that is handed up through memory would cost a third of the call.
+#[inline(always)]
 fn backup_of(t: &[u32], settings: &[u32], in_use: u8, set: u64, tag: u32) -> Result<Named, Refusal>
     requires { Valid t.now × ValidSettings settings.now × (reserved_tag tag ≡ false) × (set < 2 ^ length (table_in t.now).entries) }
     ensures { backup_in result ≡ backup_by (by_tag (plain_algorithm (settings_in settings.now) tag in_use) tag (table_in t.now).esi) (entries_at (table_in t.now).entries (places set)) tag }

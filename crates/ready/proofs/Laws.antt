@@ -148,28 +148,28 @@ pub told-missing : {P : Type 0} (r b : List ℕ) → Valid b → {f : Result ℕ
     → ((j : ℕ) → found_in entry_key (address_key (listed_in r)) (table_in b).entries ≡ Err j → P) → P
 told-missing r b v {i = i} n e p = by-family r (λ m. p i (sym (n m) ∙ e)) (λ d. p 0 (sym (stranger b r v (λ f. d (inl f)) (λ f. d (inr f)))))
 
--- ONE TURN over a list: the row at place i is looked up among the entries of a table, with the outcome f
-module _ (b w : List ℕ) (v : Valid b) (i : ℕ) (h : i < length w / 5) {f : Result ℕ ℕ}
-    (n : NamesAddress (row w i (i * 5) h refl) → f ≡ found_in entry_key (address_key (listed_in (row w i (i * 5) h refl))) (table_in b).entries) where
+-- ONE TURN over a list: the row at place i, which starts at word a, is looked up among the entries of a table, with the outcome f
+module _ (b w : List ℕ) (v : Valid b) (i a : ℕ) (h : i < length w / 5) (p : a ≡ i * 5) {f : Result ℕ ℕ}
+    (n : NamesAddress (row w i a h p) → f ≡ found_in entry_key (address_key (listed_in (row w i a h p))) (table_in b).entries) where
   abbrev found : List Entry
   found = (table_in b).entries
 
   in_list : i < length (ready_in w)
   in_list = omega (arith, length-ready w, h)
 
-  named : found_in entry_key (address_key (get_or (ready_in w) i [])) found ≡ found_in entry_key (address_key (listed_in (row w i (i * 5) h refl))) found
-  named = ap (λ (r : List ℕ). found_in entry_key (address_key r) found) (ready_at w i (i * 5) h refl)
+  named : found_in entry_key (address_key (get_or (ready_in w) i [])) found ≡ found_in entry_key (address_key (listed_in (row w i a h p))) found
+  named = ap (λ (r : List ℕ). found_in entry_key (address_key r) found) (ready_at w i a h p)
 
   pub turn-missing : {j set : ℕ} → set ≡ set_of (flags (take i (ready_in w)) found) → f ≡ Err j → set ≡ set_of (flags (take (i + 1) (ready_in w)) found)
   turn-missing {set = set} q e =
-      told-missing (row w i (i * 5) h refl) b v n e (λ k z. ready-stranger found v.sound.short v.sound.rising (ready_in w) i in_list set q k (named ∙ z))
+      told-missing (row w i a h p) b v n e (λ k z. ready-stranger found v.sound.short v.sound.rising (ready_in w) i in_list set q k (named ∙ z))
 
-  module _ (s : (NamesAddress (row w i (i * 5) h refl) → ⊥) → (j : ℕ) → f ≡ Ok j → ⊥) where
+  module _ (s : (NamesAddress (row w i a h p) → ⊥) → (j : ℕ) → f ≡ Ok j → ⊥) where
     pub turn_lt : {j : ℕ} → f ≡ Ok j → j < 64
-    turn_lt e = omega (arith, v.sound.short, at_lt entry_key _ found 1 no_entry v.sound.rising _ (told_at (row w i (i * 5) h refl) n s e))
+    turn_lt e = omega (arith, v.sound.short, at_lt entry_key _ found 1 no_entry v.sound.rising _ (told_at (row w i a h p) n s e))
 
     pub turn-found : {j set : ℕ} → set ≡ set_of (flags (take i (ready_in w)) found) → f ≡ Ok j → with_place set j ≡ set_of (flags (take (i + 1) (ready_in w)) found)
-    turn-found {j} {set} q e = ready-found found v.sound.short v.sound.rising (ready_in w) i in_list set q j (named ∙ told_at (row w i (i * 5) h refl) n s e)
+    turn-found {j} {set} q e = ready-found found v.sound.short v.sound.rising (ready_in w) i in_list set q j (named ∙ told_at (row w i a h p) n s e)
 
 -- and after the last turn the whole list
 pub turn-end : (b w : List ℕ) (i set : ℕ) → length w / 5 ≤ i → set ≡ set_of (flags (take i (ready_in w)) (table_in b).entries) → set ≡ set_of (flags (ready_in w) (table_in b).entries)

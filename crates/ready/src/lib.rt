@@ -17,8 +17,8 @@ pub fn ready_set(t: &[u32], ready: &[u32]) -> u64
 {
     let mut set = 0;
     let mut first = 0;
-    for i in 0..ready.len() / WIDTH {
-        let start = i * WIDTH;
+    let mut start = 0;
+    for _i in 0..ready.len() / WIDTH {
         let end = start + WIDTH;
         let looked = entries::lookup(t, first, &ready[start..end]);
         match looked.found {
@@ -30,6 +30,7 @@ pub fn ready_set(t: &[u32], ready: &[u32]) -> u64
                 first = at;
             }
         }
+        start = end;
     }
     set
 }
