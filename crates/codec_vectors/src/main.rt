@@ -89,8 +89,15 @@ fn show_route(
     wanted: u64,
     wanted_offset: u64,
 ) -> io::Result<()> {
-    let (number, offset) = told(&route_fields::read(octets));
-    show_offset(rt, name, number, offset, wanted, wanted_offset)
+    let read = route_fields::answer(octets);
+    show_offset(
+        rt,
+        name,
+        read.number as u64,
+        read.offset as u64,
+        wanted,
+        wanted_offset,
+    )
 }
 
 // Runs of octets with a wrong total: 20 of them, and 24 with length octet 22, where the total is told.

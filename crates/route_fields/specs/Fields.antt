@@ -1,5 +1,4 @@
 -- The fields of an Ethernet Segment route, read and written (document 01, "The route"; document 02, M-105). What lies where is said in `route`.
---   RouteRead                  == the reader's answer: 0, offset 0 and the fields, or a refusal number, its offset and zeros
 --   read_as n p d e f a        == the reader's answer with these fields
 --   told_fields r              == the answer that the reader's result r is
 --   read_route s               == the reader's answer
@@ -15,25 +14,18 @@ use Rattle.refusals.specs.Refusals.{wrong_length, esi_reserved, address_zero, bu
 use Rattle.route.specs.Route.{total_of, route_distinguisher, route_esi, route_address, route_number, route_offset}
 use Rattle.refusals.specs.Numbers.{refusal_number}
 use Rattle.refusals.specs.declared.RefusalAt.{RefusalAt}
-use Rattle.route_fields.specs.declared.RouteRead as read
-
-pub record RouteRead : Type 0 where
-  pub number : ℕ
-  pub offset : ℕ
-  pub distinguisher : List ℕ
-  pub esi : List ℕ
-  pub family : ℕ
-  pub address : List ℕ
+use Rattle.route_fields.specs.declared.RouteRead.{RouteRead}
+use Rattle.route_fields.specs.declared.RouteAnswer.{RouteAnswer}
 
 -- a refusal's other numbers are zero, but for the offset
-abbrev pub read_as : ℕ → ℕ → List ℕ → List ℕ → ℕ → List ℕ → RouteRead
+abbrev pub read_as : ℕ → ℕ → List ℕ → List ℕ → ℕ → List ℕ → RouteAnswer
 read_as n p d e f a = record { number = n; offset = p; distinguisher = d; esi = e; family = f; address = a }
 
-abbrev pub told_fields : Result read.RouteRead RefusalAt → RouteRead
+abbrev pub told_fields : Result RouteRead RefusalAt → RouteAnswer
 told_fields (Ok x) = read_as 0 0 x.distinguisher x.esi x.family x.address
 told_fields (Err r) = read_as (refusal_number r.refusal) r.offset (replicate 8 0) (replicate 10 0) 0 (replicate 16 0)
 
-unfoldable pub read_route : List ℕ → RouteRead
+unfoldable pub read_route : List ℕ → RouteAnswer
 read_route s =
     cond (eqb (route_number s) 0)
     (read_as 0 0 (route_distinguisher s) (route_esi s) (family_of (route_address s)) (octets_of_address (route_address s)))

@@ -40,6 +40,47 @@ pub fn read(s: &[u8]) -> Result<RouteRead, RefusalAt>
     })
 }
 
+// All that the reader tells, by numbers: 0, offset 0 and the fields, or a refusal number, its offset and zeros. An IPv4 address is in the first four octets, then zeros.
+#[derive(Clone, Copy)]
+pub struct RouteAnswer {
+    pub number: u8,
+    pub offset: usize,
+    pub distinguisher: [u8; 8],
+    pub esi: [u8; 10],
+    pub family: u8,
+    pub address: [u8; 16],
+}
+
+// Reads a route as `read` does, and tells it by numbers: with a refusal all is zero but the number and the offset.
+pub fn answer(s: &[u8]) -> RouteAnswer
+    ensures value { result ≡ read_route s.now }
+    ensures fault { Fault s.now result.number result.offset }
+{
+    match read(s) {
+        Ok(route) => {
+            let distinguisher = route.distinguisher;
+            let esi = route.esi;
+            let address = route.address;
+            RouteAnswer {
+                number: 0,
+                offset: 0,
+                distinguisher,
+                esi,
+                family: route.family,
+                address,
+            }
+        }
+        Err(refused) => RouteAnswer {
+            number: refused.refusal.number(),
+            offset: refused.offset,
+            distinguisher: [0; 8],
+            esi: [0; 10],
+            family: 0,
+            address: [0; 16],
+        },
+    }
+}
+
 // How many bits an address has in a route.
 fn bits(a: Address) -> u8
     ensures { result ≡ bits_of (address_row a) }
